@@ -1,0 +1,184 @@
+-- What the numbers say, as facts: the tests done and undone. Assumes nothing.
+use mathlib.Core.Path.{_≡_, refl, ap, ap₂, _∙_}
+use mathlib.Core.Bool.{Bool, true, false, cond, _||_}
+use Prim.Native.Nat.{ℕ, zero, suc, _+_, _-_, _*_, _<_, _≤_}
+use native.Mathlib.Nat.{mul-le-mul, mul-le-mul-right}
+use native.Mathlib.Omega.{arith}
+use lib.ListN.{length}
+use lib.Dec.{leb, ltb, eqb}
+use borrow.Author.Tests.{ltb-false, leb-false, le-ltb, lt-leb, ne-eqb, eqb-false}
+use Rattle.rfc6386.specs.Picture.{Plane}
+use Rattle.rfc6386.specs.Refusal.{orElse, ifDone, outside, strideFault, lengthFault, planeRefusal}
+use Rattle.rfc6386.specs.Macroblock.{Source, Reference, sidePlane, planeY, planeU, planeV, sizeTest, strideTest, lengthTest, placeTest, refusal}
+use Rattle.rfc6386.specs.Laws.Raster.{row-fits}
+
+-- ---- tests
+or-false : (a b : Bool) → a || b ≡ false → (a ≡ false) × (b ≡ false)
+or-false false b e = (refl, e)
+or-false true b e = let f : _≡_ {A = ℕ} 0 1 = cc in absurd (omega arith)
+
+or-both : {a b : Bool} → a ≡ false → b ≡ false → a || b ≡ false
+or-both p q = ap₂ _||_ p q
+
+if-zero : (b : Bool) (n r : ℕ) → cond b (suc n) r ≡ 0 → (b ≡ false) × (r ≡ 0)
+if-zero false n r e = (refl, e)
+if-zero true n r e = absurd (omega arith)
+
+if-past : {b : Bool} {r : ℕ} (n : ℕ) → b ≡ false → r ≡ 0 → cond b n r ≡ 0
+if-past {b} {r} n p q = ap (λ (x : Bool). cond x n r) p ∙ q
+
+in-range : (most n : ℕ) → outside most n ≡ false → (1 ≤ n) × (n ≤ most)
+in-range most n e =
+    let p = or-false (eqb n 0) (ltb most n) e in
+    let a = eqb-false n 0 (p .0) in
+    let b = ltb-false most n (p .1) in
+    (omega arith, omega arith)
+
+range-in : (most n : ℕ) → 1 ≤ n → n ≤ most → outside most n ≡ false
+range-in most n h k = or-both (ne-eqb n 0 (λ e. omega arith)) (le-ltb most n k)
+
+-- where a number is 0 a call is done, elsewhere it refuses
+pub done : {A : Type 0} {n : ℕ} (a b : A) → n ≡ 0 → ifDone n a b ≡ a
+unfolding ifDone
+done {n = zero} a b e = refl
+done {n = suc n} a b e = absurd (omega arith)
+
+pub refused : {A : Type 0} {n : ℕ} (a b : A) → (n ≡ 0 → ⊥) → ifDone n a b ≡ b
+unfolding ifDone
+refused {n = zero} a b e = absurd (e refl)
+refused {n = suc n} a b e = refl
+
+-- ---- one plane
+-- tests 2 and 3
+pub record Fits (p : Plane) : Type 0 where
+  pub stride-least : p .width ≤ p .stride
+  pub stride-most : p .stride ≤ 32768
+  pub bytes : (p .height - 1) * p .stride + p .width ≤ length (p .bytes)
+
+fits : (p : Plane) → strideFault p ≡ false → lengthFault p ≡ false → Fits p
+fits p e f =
+    let s = or-false (ltb (p .stride) (p .width)) (ltb 32768 (p .stride)) e in
+    record { stride-least = ltb-false _ _ (s .0); stride-most = ltb-false _ _ (s .1); bytes = ltb-false _ _ f }
+
+stride-fits : (p : Plane) → Fits p → strideFault p ≡ false
+stride-fits p F = or-both (le-ltb (p .stride) (p .width) (F .stride-least)) (le-ltb 32768 (p .stride) (F .stride-most))
+
+length-fits : (p : Plane) → Fits p → lengthFault p ≡ false
+length-fits p F = le-ltb _ _ (F .bytes)
+
+pub record PlaneAccepts (p : Plane) (x y : ℕ) : Type 0 where
+  pub width-least : 1 ≤ p .width
+  pub width-most : p .width ≤ 16384
+  pub height-least : 1 ≤ p .height
+  pub height-most : p .height ≤ 16384
+  pub fits : Fits p
+  pub x-inside : x < p .width
+  pub y-inside : y < p .height
+
+-- THEOREM. A call on one plane gets number 0 exactly where no condition holds.
+pub plane-accepts : (p : Plane) (x y : ℕ) → planeRefusal p x y ≡ 0 → PlaneAccepts p x y
+unfolding planeRefusal
+plane-accepts p x y e =
+    let t1 = if-zero (outside 16384 (p .width) || outside 16384 (p .height)) _ _ e in
+    let t2 = if-zero (strideFault p) _ _ (t1 .1) in
+    let t3 = if-zero (lengthFault p) _ _ (t2 .1) in
+    let t4 = if-zero (leb (p .width) x || leb (p .height) y) _ _ (t3 .1) in
+    let s = or-false (outside 16384 (p .width)) (outside 16384 (p .height)) (t1 .0) in
+    let w = in-range 16384 (p .width) (s .0) in
+    let h = in-range 16384 (p .height) (s .1) in
+    let i = or-false (leb (p .width) x) (leb (p .height) y) (t4 .0) in
+    record {
+      width-least = w .0;
+      width-most = w .1;
+      height-least = h .0;
+      height-most = h .1;
+      fits = fits p (t2 .0) (t3 .0);
+      x-inside = leb-false _ _ (i .0);
+      y-inside = leb-false _ _ (i .1);
+    }
+
+pub plane-zero : (p : Plane) (x y : ℕ) → PlaneAccepts p x y → planeRefusal p x y ≡ 0
+unfolding planeRefusal
+plane-zero p x y A =
+    if-past 1 (or-both (range-in 16384 (p .width) (A .width-least) (A .width-most)) (range-in 16384 (p .height) (A .height-least) (A .height-most)))
+    (if-past 2 (stride-fits p (A .fits))
+    (if-past 3 (length-fits p (A .fits))
+    (if-past 4 (or-both (lt-leb _ _ (A .x-inside)) (lt-leb _ _ (A .y-inside))) refl)))
+
+-- ---- a macroblock
+pub record Accepts (ref : Reference) (col row : ℕ) : Type 0 where
+  pub cols-least : 1 ≤ ref .cols
+  pub cols-most : ref .cols ≤ 1024
+  pub rows-least : 1 ≤ ref .rows
+  pub rows-most : ref .rows ≤ 1024
+  pub y : Fits (planeY ref)
+  pub u : Fits (planeU ref)
+  pub v : Fits (planeV ref)
+  pub col-inside : col < ref .cols
+  pub row-inside : row < ref .rows
+
+or3-false : (a b c : Bool) → a || (b || c) ≡ false → (a ≡ false) × (b ≡ false) × (c ≡ false)
+or3-false a b c e = let p = or-false a (b || c) e in let q = or-false b c (p .1) in (p .0, q .0, q .1)
+
+-- THEOREM. A call on a macroblock gets number 0 exactly where no condition holds.
+pub accepts : (ref : Reference) (col row : ℕ) → refusal ref col row ≡ 0 → Accepts ref col row
+unfolding refusal
+accepts ref col row e =
+    let t1 = if-zero (sizeTest ref) _ _ e in
+    let t2 = if-zero (strideTest ref) _ _ (t1 .1) in
+    let t3 = if-zero (lengthTest ref) _ _ (t2 .1) in
+    let t4 = if-zero (placeTest ref col row) _ _ (t3 .1) in
+    let a = or-false (outside 1024 (ref .cols)) (outside 1024 (ref .rows)) (t1 .0) in
+    let w = in-range 1024 (ref .cols) (a .0) in
+    let h = in-range 1024 (ref .rows) (a .1) in
+    let s = or3-false (strideFault (planeY ref)) (strideFault (planeU ref)) (strideFault (planeV ref)) (t2 .0) in
+    let b = or3-false (lengthFault (planeY ref)) (lengthFault (planeU ref)) (lengthFault (planeV ref)) (t3 .0) in
+    let i = or-false (leb (ref .cols) col) (leb (ref .rows) row) (t4 .0) in
+    record {
+      cols-least = w .0;
+      cols-most = w .1;
+      rows-least = h .0;
+      rows-most = h .1;
+      y = fits (planeY ref) (s .0) (b .0);
+      u = fits (planeU ref) (s .1) (b .1);
+      v = fits (planeV ref) (s .2) (b .2);
+      col-inside = leb-false _ _ (i .0);
+      row-inside = leb-false _ _ (i .1);
+    }
+
+pub zero-for : (ref : Reference) (col row : ℕ) → Accepts ref col row → refusal ref col row ≡ 0
+unfolding refusal
+zero-for ref col row A =
+    if-past 1 (or-both (range-in 1024 (ref .cols) (A .cols-least) (A .cols-most)) (range-in 1024 (ref .rows) (A .rows-least) (A .rows-most)))
+    (if-past 2 (or-both (stride-fits (planeY ref) (A .y)) (or-both (stride-fits (planeU ref) (A .u)) (stride-fits (planeV ref) (A .v))))
+    (if-past 3 (or-both (length-fits (planeY ref) (A .y)) (or-both (length-fits (planeU ref) (A .u)) (length-fits (planeV ref) (A .v))))
+    (if-past 4 (or-both (lt-leb _ _ (A .col-inside)) (lt-leb _ _ (A .row-inside))) refl)))
+
+-- THEOREM. Where a macroblock is accepted, so is every block that starts in it, in each of its planes.
+side-accepted : (ref : Reference) (col row : ℕ) → Accepts ref col row → (s : Source) (n a b : ℕ) → n ≤ 16 → Fits (sidePlane ref s n) → a < n → b < n
+    → planeRefusal (sidePlane ref s n) (col * n + a) (row * n + b) ≡ 0
+side-accepted ref col row A s n a b h F la lb =
+    let w = mul-le-mul (A .cols-most) h in
+    let t = mul-le-mul (A .rows-most) h in
+    let x = row-fits col (ref .cols) n (A .col-inside) in
+    let y = row-fits row (ref .rows) n (A .row-inside) in
+    plane-zero (sidePlane ref s n) (col * n + a) (row * n + b)
+    (record {
+      width-least = omega arith;
+      width-most = omega arith;
+      height-least = omega arith;
+      height-most = omega arith;
+      fits = F;
+      x-inside = omega arith;
+      y-inside = omega arith;
+    })
+
+module _ (ref : Reference) (col row : ℕ) (A : Accepts ref col row) (a b : ℕ) where
+  pub luma-accepted : a < 16 → b < 16 → planeRefusal (planeY ref) (col * 16 + a) (row * 16 + b) ≡ 0
+  luma-accepted = side-accepted ref col row A (ref .y) 16 a b (omega arith) (A .y)
+
+  pub u-accepted : a < 8 → b < 8 → planeRefusal (planeU ref) (col * 8 + a) (row * 8 + b) ≡ 0
+  u-accepted = side-accepted ref col row A (ref .u) 8 a b (omega arith) (A .u)
+
+  pub v-accepted : a < 8 → b < 8 → planeRefusal (planeV ref) (col * 8 + a) (row * 8 + b) ≡ 0
+  v-accepted = side-accepted ref col row A (ref .v) 8 a b (omega arith) (A .v)
