@@ -1,18 +1,37 @@
 -- From fetch and filter to the definition: a block filtered out of its fetched halo is the block of predicted samples. Assumes nothing.
-use mathlib.Core.Path.{_≡_, sym, ap, ap₂, _∙_}
+use mathlib.Core.Path.{_≡_, refl, sym, ap, ap₂, _∙_}
+use mathlib.Core.Bool.{Bool, true, false, cond, _&&_}
+use mathlib.Core.List.{List}
 use Prim.Native.Nat.{ℕ, _+_, _*_, _<_, _≤_}
 use native.Mathlib.Omega.{arith}
-use lib.ListN.{getD}
+use borrow.Author.Tests.{eqb-true, le-ltb}
+use lib.Dec.{eqb}
+use lib.ListN.{getD, replicate}
 use lib.IntN.{ℤ, pos, _+ℤ_, _-ℤ_}
 use Rattle.signed.specs.Int.{int, sum, diff}
-use Rattle.rfc6386.specs.Vector.{wholePart, fraction}
+use Rattle.rfc6386.specs.Vector.{wholePart, fraction, isWhole}
 use Rattle.rfc6386.specs.Filter.{tapsOf}
 use Rattle.rfc6386.specs.Laws.Raster.{getD-raster, raster-ext}
-use Rattle.rfc6386.specs.Picture.{Image, place, across, twoSteps, filtered, predicted, blockBy, block, square, pixels, halo, stepAt, haloSample, haloBlock}
+use Rattle.rfc6386.specs.Refusal.{orElse, planeRefusal}
+use Rattle.rfc6386.specs.Block.{shown, fractionsRefusal}
+use Rattle.rfc6386.specs.Picture.{Plane, Image, image, place, across, twoSteps, filtered, predicted, blockBy, block, square, pixels, halo, stepAt, haloSample, haloBlock}
+use Rattle.rfc6386.specs.Laws.Vectors.{fraction-under}
+use Rattle.rfc6386.specs.Laws.Refusals.{done}
 use Rattle.rfc6386.specs.Laws.Steps.{same}
 use Rattle.rfc6386.specs.Laws.Samples.{Bytes, filtered-is}
 use Rattle.rfc6386.specs.declared.Mv.{Mv}
 use Rattle.rfc6386.specs.declared.FilterSet.{FilterSet}
+
+and-true : (a b : Bool) → a && b ≡ true → (a ≡ true) × (b ≡ true)
+and-true true true e = (refl, refl)
+and-true true false e = let f : _≡_ {A = ℕ} 0 1 = cc in absurd (omega arith)
+and-true false b e = let f : _≡_ {A = ℕ} 0 1 = cc in absurd (omega arith)
+
+whole-row : (v : Mv) → isWhole v ≡ true → fraction (v .row) ≡ 0
+whole-row v e = eqb-true _ _ (and-true (eqb (fraction (v .row)) 0) (eqb (fraction (v .col)) 0) e .0)
+
+whole-col : (v : Mv) → isWhole v ≡ true → fraction (v .col) ≡ 0
+whole-col v e = eqb-true _ _ (and-true (eqb (fraction (v .row)) 0) (eqb (fraction (v .col)) 0) e .1)
 
 -- the first coordinate of a halo: two before the whole part
 abbrev origin : ℕ → ℤ → ℤ
@@ -80,3 +99,27 @@ module _ (n : ℕ) (set : FilterSet) (img : Image) (x y : ℕ) (v : Mv) where
   pixels-block e f =
       raster-ext n n _ _
       (λ r c hr hc. ap₂ img (same-place x c (v .col)) (same-place y r (v .row)) ∙ ap₂ (λ (j k : ℕ). filtered set img j k (X c) (Y r)) (sym e) (sym f))
+
+-- ---- the same of what calls answer: a block is its whole pixels, or its halo filtered
+abbrev fx : Mv → ℕ
+fx v = fraction (v .col)
+
+abbrev fy : Mv → ℕ
+fy v = fraction (v .row)
+
+no-refusal : (v : Mv) → fractionsRefusal (fx v) (fy v) ≡ 0
+no-refusal v =
+    ap₂ (λ (a b : Bool). orElse (cond a 5 0) (cond b 5 0)) (le-ltb 7 (fx v) (omega (arith, fraction-under (v .col)))) (le-ltb 7 (fy v) (omega (arith, fraction-under (v .row))))
+
+module _ (n : ℕ) (set : FilterSet) (p : Plane) (x y : ℕ) (v : Mv) (ok : planeRefusal p x y ≡ 0) where
+  pub shown-pixels : (count : ℕ) → isWhole v ≡ true → shown count (planeRefusal p x y) (pixels n (image p) x y v) ≡ block n set (image p) x y v
+  shown-pixels count e = done (pixels n (image p) x y v) (replicate count 0) ok ∙ pixels-block n set (image p) x y v (whole-col v e) (whole-row v e)
+
+  pub shown-halo : (count count′ : ℕ) → Bytes (image p)
+      → shown count (fractionsRefusal (fx v) (fy v)) (haloBlock n set (shown count′ (planeRefusal p x y) (halo n (image p) x y v)) (fx v) (fy v))
+      ≡ block n set (image p) x y v
+  shown-halo count count′ B =
+      let h = shown count′ (planeRefusal p x y) (halo n (image p) x y v) in
+      done (haloBlock n set h (fx v) (fy v)) (replicate count 0) (no-refusal v)
+      ∙ ap (λ (l : List ℕ). haloBlock n set l (fx v) (fy v)) (done (halo n (image p) x y v) (replicate count′ 0) ok)
+      ∙ halo-block n set (image p) x y v B

@@ -12,27 +12,27 @@ use lib.ListN.{length, getD}
 use lib.Seq.{ext-getD}
 use Rattle.rfc6386.specs.Raster.{tab, raster, within, written}
 
-pub length-tab : (n : ℕ) (f : ℕ → ℕ) → length (tab n f) ≡ n
-unfolding tab
-length-tab zero f = refl
-length-tab (suc n) f = ap suc (length-tab n (λ i. f (suc i)))
+-- ---- f 0, f 1, .., f (n - 1)
+module _ {A : Type 0} where
+  pub length-tab : (n : ℕ) (f : ℕ → A) → length (tab n f) ≡ n
+  unfolding tab
+  length-tab zero f = refl
+  length-tab (suc n) f = ap suc (length-tab n (λ i. f (suc i)))
 
-pub getD-tab : (n : ℕ) (f : ℕ → ℕ) (i d : ℕ) → i < n → getD (tab n f) i d ≡ f i
-unfolding tab
-getD-tab zero f i d h = absurd (not-suc-le-zero h)
-getD-tab (suc n) f zero d h = refl
-getD-tab (suc n) f (suc i) d h = getD-tab n (λ i. f (suc i)) i d (omega arith)
+  pub getD-tab : (n : ℕ) (f : ℕ → A) (i : ℕ) (d : A) → i < n → getD (tab n f) i d ≡ f i
+  unfolding tab
+  getD-tab zero f i d h = absurd (not-suc-le-zero h)
+  getD-tab (suc n) f zero d h = refl
+  getD-tab (suc n) f (suc i) d h = getD-tab n (λ i. f (suc i)) i d (omega arith)
+
+  -- a list of n elements that are f's
+  pub is-tab : (d : A) (n : ℕ) (f : ℕ → A) (l : List A) → length l ≡ n → ((i : ℕ) → i < n → getD l i d ≡ f i) → l ≡ tab n f
+  is-tab d n f l e h =
+      ext-getD d l (tab n f) (e ∙ sym (length-tab n f))
+      (λ i k. let m : i < n = omega arith in h i m ∙ sym (getD-tab n f i d m))
 
 pub tab-ext : (n : ℕ) (f g : ℕ → ℕ) → ((i : ℕ) → i < n → f i ≡ g i) → tab n f ≡ tab n g
-tab-ext n f g h =
-    ext-getD 0 (tab n f) (tab n g) (length-tab n f ∙ sym (length-tab n g))
-    (λ i l. let k : i < n = omega (arith, length-tab n f) in getD-tab n f i 0 k ∙ h i k ∙ sym (getD-tab n g i 0 k))
-
--- a list of n elements that are f's
-pub is-tab : (n : ℕ) (f : ℕ → ℕ) (l : List ℕ) → length l ≡ n → ((i : ℕ) → i < n → getD l i 0 ≡ f i) → l ≡ tab n f
-is-tab n f l e h =
-    ext-getD 0 l (tab n f) (e ∙ sym (length-tab n f))
-    (λ i k. let m : i < n = omega arith in h i m ∙ sym (getD-tab n f i 0 m))
+tab-ext n f g h = is-tab 0 n g (tab n f) (length-tab n f) (λ i k. getD-tab n f i 0 k ∙ h i k)
 
 -- ---- rows
 pub next-row : (r w : ℕ) → (r + 1) * w ≡ r * w + w

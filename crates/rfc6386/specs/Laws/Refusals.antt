@@ -1,5 +1,5 @@
 -- What the numbers say, as facts: the tests done and undone. Assumes nothing.
-use mathlib.Core.Path.{_≡_, refl, ap, ap₂, _∙_}
+use mathlib.Core.Path.{_≡_, refl, sym, ap, ap₂, _∙_}
 use mathlib.Core.Bool.{Bool, true, false, cond, _||_}
 use Prim.Native.Nat.{ℕ, zero, suc, _+_, _-_, _*_, _<_, _≤_}
 use native.Mathlib.Nat.{mul-le-mul, mul-le-mul-right}
@@ -8,7 +8,7 @@ use lib.ListN.{length}
 use lib.Dec.{leb, ltb, eqb}
 use borrow.Author.Tests.{ltb-false, leb-false, le-ltb, lt-leb, ne-eqb, eqb-false}
 use Rattle.rfc6386.specs.Picture.{Plane}
-use Rattle.rfc6386.specs.Refusal.{orElse, ifDone, outside, strideFault, lengthFault, planeRefusal}
+use Rattle.rfc6386.specs.Refusal.{orElse, lowest, ifDone, outside, strideFault, lengthFault, planeRefusal}
 use Rattle.rfc6386.specs.Macroblock.{Source, Reference, sidePlane, planeY, planeU, planeV, sizeTest, strideTest, lengthTest, placeTest, refusal}
 use Rattle.rfc6386.specs.Laws.Raster.{row-fits}
 
@@ -153,6 +153,68 @@ zero-for ref col row A =
     (if-past 2 (or-both (stride-fits (planeY ref) (A .y)) (or-both (stride-fits (planeU ref) (A .u)) (stride-fits (planeV ref) (A .v))))
     (if-past 3 (or-both (length-fits (planeY ref) (A .y)) (or-both (length-fits (planeU ref) (A .u)) (length-fits (planeV ref) (A .v))))
     (if-past 4 (or-both (lt-leb _ _ (A .col-inside)) (lt-leb _ _ (A .row-inside))) refl)))
+
+-- THEOREM. A macroblock's number is 1, or the lowest of its planes' numbers at their first sample, or 4.
+tests : Bool → Bool → ℕ
+tests s l = cond s 2 (cond l 3 0)
+
+both-tests : (s l s′ l′ : Bool) → lowest (tests s l) (tests s′ l′) ≡ tests (s || s′) (l || l′)
+unfolding tests
+both-tests true l true l′ = refl
+both-tests true l false true = refl
+both-tests true l false false = refl
+both-tests false true true l′ = refl
+both-tests false true false true = refl
+both-tests false true false false = refl
+both-tests false false s′ l′ = refl
+
+-- a plane's number at its first sample
+first-number : (p : Plane) → 1 ≤ p .width → p .width ≤ 16384 → 1 ≤ p .height → p .height ≤ 16384 → planeRefusal p 0 0 ≡ tests (strideFault p) (lengthFault p)
+unfolding planeRefusal tests
+first-number p wl wm hl hm =
+    ap (λ (b : Bool). cond b 1 (cond (strideFault p) 2 (cond (lengthFault p) 3 (cond (leb (p .width) 0 || leb (p .height) 0) 4 0))))
+    (or-both (range-in 16384 (p .width) wl wm) (range-in 16384 (p .height) hl hm))
+    ∙ ap (λ (b : Bool). cond (strideFault p) 2 (cond (lengthFault p) 3 (cond b 4 0))) (or-both (lt-leb (p .width) 0 wl) (lt-leb (p .height) 0 hl))
+
+then : (s l : Bool) (r : ℕ) → cond s 2 (cond l 3 r) ≡ orElse (tests s l) r
+unfolding tests
+then true l r = refl
+then false true r = refl
+then false false r = refl
+
+side-number : (ref : Reference) → sizeTest ref ≡ false → (s : Source) (n : ℕ) → 1 ≤ n → n ≤ 16
+    → planeRefusal (sidePlane ref s n) 0 0 ≡ tests (strideFault (sidePlane ref s n)) (lengthFault (sidePlane ref s n))
+side-number ref e s n l m =
+    let a = or-false (outside 1024 (ref .cols)) (outside 1024 (ref .rows)) e in
+    let c = in-range 1024 (ref .cols) (a .0) in
+    let r = in-range 1024 (ref .rows) (a .1) in
+    let cl = mul-le-mul (c .0) l in
+    let cm = mul-le-mul (c .1) m in
+    let rl = mul-le-mul (r .0) l in
+    let rm = mul-le-mul (r .1) m in
+    first-number (sidePlane ref s n) (omega arith) (omega arith) (omega arith) (omega arith)
+
+pub planes-number : (ref : Reference) (col row : ℕ) → sizeTest ref ≡ false
+    → refusal ref col row
+    ≡ orElse (lowest (planeRefusal (planeY ref) 0 0) (lowest (planeRefusal (planeU ref) 0 0) (planeRefusal (planeV ref) 0 0)))
+    (cond (placeTest ref col row) 4 0)
+unfolding refusal
+planes-number ref col row e =
+    let last : ℕ = cond (placeTest ref col row) 4 0 in
+    let sY = strideFault (planeY ref) in
+    let sU = strideFault (planeU ref) in
+    let sV = strideFault (planeV ref) in
+    let lY = lengthFault (planeY ref) in
+    let lU = lengthFault (planeU ref) in
+    let lV = lengthFault (planeV ref) in
+    ap (λ (b : Bool). cond b 1 (cond (strideTest ref) 2 (cond (lengthTest ref) 3 last))) e
+    ∙ then (sY || (sU || sV)) (lY || (lU || lV)) last
+    ∙ ap (λ (n : ℕ). orElse n last)
+    (sym (both-tests sY lY (sU || sV) (lU || lV))
+    ∙ ap (lowest (tests sY lY)) (sym (both-tests sU lU sV lV))
+    ∙ sym
+    (ap₂ lowest (side-number ref e (ref .y) 16 (omega arith) (omega arith))
+    (ap₂ lowest (side-number ref e (ref .u) 8 (omega arith) (omega arith)) (side-number ref e (ref .v) 8 (omega arith) (omega arith)))))
 
 -- THEOREM. Where a macroblock is accepted, so is every block that starts in it, in each of its planes.
 side-accepted : (ref : Reference) (col row : ℕ) → Accepts ref col row → (s : Source) (n a b : ℕ) → n ≤ 16 → Fits (sidePlane ref s n) → a < n → b < n
