@@ -86,8 +86,14 @@ abbrev pub quarterVector : Lowering → List Mv → ℕ → Mv
 quarterVector low vs q = each (lowered (low .chroma)) (quarterAverage vs q)
 
 -- ---- where sixteen equal vectors are one: both components in -16384 .. 16383
+abbrev pub leastInside : ℤ
+leastInside = negsuc 16383
+
+abbrev pub mostInside : ℤ
+mostInside = pos 16383
+
 abbrev pub inside : ℤ → Bool
-inside z = leZ (negsuc 16383) z && leZ z (pos 16383)
+inside z = leZ leastInside z && leZ z mostInside
 
 abbrev pub mergeable : Mv → Bool
 mergeable v = inside (v .row) && inside (v .col)

@@ -2,15 +2,17 @@
 use mathlib.Core.Path.{_≡_, refl, sym, ap, ap₂, _∙_}
 use mathlib.Core.Bool.{Bool, true, false, cond, _||_}
 use Prim.Native.Nat.{ℕ, zero, suc, _+_, _-_, _*_, _<_, _≤_}
-use native.Mathlib.Nat.{mul-le-mul, mul-le-mul-right}
+use native.Mathlib.Nat.{mul-le-mul}
 use native.Mathlib.Omega.{arith}
 use lib.ListN.{length}
 use lib.Dec.{leb, ltb, eqb}
 use borrow.Author.Tests.{ltb-false, leb-false, le-ltb, lt-leb, ne-eqb, eqb-false}
 use Rattle.rfc6386.specs.Picture.{Plane}
 use Rattle.rfc6386.specs.Refusal.{orElse, lowest, ifDone, outside, strideFault, lengthFault, planeRefusal}
-use Rattle.rfc6386.specs.Macroblock.{Source, Reference, sidePlane, planeY, planeU, planeV, sizeTest, strideTest, lengthTest, placeTest, refusal}
+use Rattle.rfc6386.specs.Macroblock.{Source, Reference, sidePlane, planeY, planeU, planeV, sizeTest, strideTest, lengthTest, placeTest, refusal, noSamples, answered}
 use Rattle.rfc6386.specs.Laws.Raster.{row-fits}
+use Rattle.rfc6386.specs.declared.ReconstructedMb.{ReconstructedMb}
+use Rattle.rfc6386.specs.declared.Prediction.{Prediction}
 
 -- ---- tests
 or-false : (a b : Bool) → a || b ≡ false → (a ≡ false) × (b ≡ false)
@@ -47,6 +49,15 @@ pub refused : {A : Type 0} {n : ℕ} (a b : A) → (n ≡ 0 → ⊥) → ifDone 
 unfolding ifDone
 refused {n = zero} a b e = absurd (e refl)
 refused {n = suc n} a b e = refl
+
+-- a number or the next
+pub or-else-first : (n m : ℕ) → (n ≡ 0 → ⊥) → orElse n m ≡ n
+or-else-first zero m h = absurd (h refl)
+or-else-first (suc n) m h = refl
+
+pub or-else-next : (n m : ℕ) → n ≡ 0 → orElse n m ≡ m
+or-else-next zero m e = refl
+or-else-next (suc n) m e = absurd (omega arith)
 
 -- ---- one plane
 -- tests 2 and 3
@@ -106,6 +117,20 @@ plane-zero p x y A =
     (if-past 4 (or-both (lt-leb _ _ (A .x-inside)) (lt-leb _ _ (A .y-inside))) refl)))
 
 -- ---- a macroblock
+-- sizes that test 1 passes
+pub record Sized (cols rows : ℕ) : Type 0 where
+  pub cols-least : 1 ≤ cols
+  pub cols-most : cols ≤ 1024
+  pub rows-least : 1 ≤ rows
+  pub rows-most : rows ≤ 1024
+
+pub sized : (cols rows : ℕ) → outside 1024 cols || outside 1024 rows ≡ false → Sized cols rows
+sized cols rows e =
+    let a = or-false (outside 1024 cols) (outside 1024 rows) e in
+    let w = in-range 1024 cols (a .0) in
+    let h = in-range 1024 rows (a .1) in
+    record { cols-least = w .0; cols-most = w .1; rows-least = h .0; rows-most = h .1 }
+
 pub record Accepts (ref : Reference) (col row : ℕ) : Type 0 where
   pub cols-least : 1 ≤ ref .cols
   pub cols-most : ref .cols ≤ 1024
@@ -128,17 +153,15 @@ accepts ref col row e =
     let t2 = if-zero (strideTest ref) _ _ (t1 .1) in
     let t3 = if-zero (lengthTest ref) _ _ (t2 .1) in
     let t4 = if-zero (placeTest ref col row) _ _ (t3 .1) in
-    let a = or-false (outside 1024 (ref .cols)) (outside 1024 (ref .rows)) (t1 .0) in
-    let w = in-range 1024 (ref .cols) (a .0) in
-    let h = in-range 1024 (ref .rows) (a .1) in
+    let S = sized (ref .cols) (ref .rows) (t1 .0) in
     let s = or3-false (strideFault (planeY ref)) (strideFault (planeU ref)) (strideFault (planeV ref)) (t2 .0) in
     let b = or3-false (lengthFault (planeY ref)) (lengthFault (planeU ref)) (lengthFault (planeV ref)) (t3 .0) in
     let i = or-false (leb (ref .cols) col) (leb (ref .rows) row) (t4 .0) in
     record {
-      cols-least = w .0;
-      cols-most = w .1;
-      rows-least = h .0;
-      rows-most = h .1;
+      cols-least = S .cols-least;
+      cols-most = S .cols-most;
+      rows-least = S .rows-least;
+      rows-most = S .rows-most;
       y = fits (planeY ref) (s .0) (b .0);
       u = fits (planeU ref) (s .1) (b .1);
       v = fits (planeV ref) (s .2) (b .2);
@@ -153,6 +176,10 @@ zero-for ref col row A =
     (if-past 2 (or-both (stride-fits (planeY ref) (A .y)) (or-both (stride-fits (planeU ref) (A .u)) (stride-fits (planeV ref) (A .v))))
     (if-past 3 (or-both (length-fits (planeY ref) (A .y)) (or-both (length-fits (planeU ref) (A .u)) (length-fits (planeV ref) (A .v))))
     (if-past 4 (or-both (lt-leb _ _ (A .col-inside)) (lt-leb _ _ (A .row-inside))) refl)))
+
+pub size-number : (ref : Reference) (col row : ℕ) → sizeTest ref ≡ true → refusal ref col row ≡ 1
+unfolding refusal
+size-number ref col row e = ap (λ (b : Bool). cond b 1 (cond (strideTest ref) 2 (cond (lengthTest ref) 3 (cond (placeTest ref col row) 4 0)))) e
 
 -- THEOREM. A macroblock's number is 1, or the lowest of its planes' numbers at their first sample, or 4.
 tests : Bool → Bool → ℕ
@@ -185,13 +212,11 @@ then false false r = refl
 side-number : (ref : Reference) → sizeTest ref ≡ false → (s : Source) (n : ℕ) → 1 ≤ n → n ≤ 16
     → planeRefusal (sidePlane ref s n) 0 0 ≡ tests (strideFault (sidePlane ref s n)) (lengthFault (sidePlane ref s n))
 side-number ref e s n l m =
-    let a = or-false (outside 1024 (ref .cols)) (outside 1024 (ref .rows)) e in
-    let c = in-range 1024 (ref .cols) (a .0) in
-    let r = in-range 1024 (ref .rows) (a .1) in
-    let cl = mul-le-mul (c .0) l in
-    let cm = mul-le-mul (c .1) m in
-    let rl = mul-le-mul (r .0) l in
-    let rm = mul-le-mul (r .1) m in
+    let S = sized (ref .cols) (ref .rows) e in
+    let cl = mul-le-mul (S .cols-least) l in
+    let cm = mul-le-mul (S .cols-most) m in
+    let rl = mul-le-mul (S .rows-least) l in
+    let rm = mul-le-mul (S .rows-most) m in
     first-number (sidePlane ref s n) (omega arith) (omega arith) (omega arith) (omega arith)
 
 pub planes-number : (ref : Reference) (col row : ℕ) → sizeTest ref ≡ false
@@ -235,6 +260,24 @@ side-accepted ref col row A s n a b h F la lb =
       y-inside = omega arith;
     })
 
+-- and so at its first sample
+side-start : (ref : Reference) (col row : ℕ) → Accepts ref col row → (s : Source) (n : ℕ) → 1 ≤ n → n ≤ 16 → Fits (sidePlane ref s n)
+    → planeRefusal (sidePlane ref s n) (col * n) (row * n) ≡ 0
+side-start ref col row A s n l h F =
+    let x : col * n + 0 ≡ col * n = omega arith in
+    let y : row * n + 0 ≡ row * n = omega arith in
+    sym (ap₂ (planeRefusal (sidePlane ref s n)) x y) ∙ side-accepted ref col row A s n 0 0 h F l l
+
+module _ (ref : Reference) (col row : ℕ) (A : Accepts ref col row) where
+  pub luma-start : planeRefusal (planeY ref) (col * 16) (row * 16) ≡ 0
+  luma-start = side-start ref col row A (ref .y) 16 (omega arith) (omega arith) (A .y)
+
+  pub u-start : planeRefusal (planeU ref) (col * 8) (row * 8) ≡ 0
+  u-start = side-start ref col row A (ref .u) 8 (omega arith) (omega arith) (A .u)
+
+  pub v-start : planeRefusal (planeV ref) (col * 8) (row * 8) ≡ 0
+  v-start = side-start ref col row A (ref .v) 8 (omega arith) (omega arith) (A .v)
+
 module _ (ref : Reference) (col row : ℕ) (A : Accepts ref col row) (a b : ℕ) where
   pub luma-accepted : a < 16 → b < 16 → planeRefusal (planeY ref) (col * 16 + a) (row * 16 + b) ≡ 0
   luma-accepted = side-accepted ref col row A (ref .y) 16 a b (omega arith) (A .y)
@@ -244,3 +287,16 @@ module _ (ref : Reference) (col row : ℕ) (A : Accepts ref col row) (a b : ℕ)
 
   pub v-accepted : a < 8 → b < 8 → planeRefusal (planeV ref) (col * 8 + a) (row * 8 + b) ≡ 0
   v-accepted = side-accepted ref col row A (ref .v) 8 a b (omega arith) (A .v)
+
+-- ---- what a call answers, by its number n
+pub refused-is : {n m : ℕ} (s : ReconstructedMb) → n ≡ m → (n ≡ 0 → ⊥) → _≡_ {A = Prediction} (record { number = n; samples = noSamples }) (answered m s)
+unfolding answered
+refused-is {n} {m} s e h =
+    let z : ifDone n s noSamples ≡ noSamples = refused s noSamples h in
+    (λ i. record { number = n; samples = sym z i }) ∙ ap (λ (k : ℕ). record { number = k; samples = ifDone k s noSamples }) e
+
+pub done-is : {n m : ℕ} {s s′ : ReconstructedMb} → n ≡ m → n ≡ 0 → s′ ≡ s → _≡_ {A = Prediction} (record { number = n; samples = s′ }) (answered m s)
+unfolding answered
+done-is {n} {m} {s} {s′} e h q =
+    let z : ifDone n s noSamples ≡ s = done s noSamples h in
+    (λ i. record { number = n; samples = (q ∙ sym z) i }) ∙ ap (λ (k : ℕ). record { number = k; samples = ifDone k s noSamples }) e
