@@ -4,21 +4,24 @@ use mathlib.Core.Bool.{Bool, true, false, cond, _||_}
 use Prim.Native.Nat.{ℕ, zero, suc, _+_, _-_, _*_, _<_, _≤_}
 use native.Mathlib.Nat.{mul-le-mul}
 use native.Mathlib.Omega.{arith}
-use lib.ListN.{length}
+use mathlib.Core.List.{List}
+use lib.ListN.{length, replicate}
 use lib.Dec.{leb, ltb, eqb}
+use lib.IntN.{pos}
 use borrow.Author.Tests.{ltb-false, leb-false, le-ltb, lt-leb, ne-eqb, eqb-false}
-use Rattle.rfc6386.specs.Picture.{Plane}
-use Rattle.rfc6386.specs.Refusal.{orElse, lowest, ifDone, outside, strideFault, lengthFault, planeRefusal}
+use Rattle.rfc6386.specs.Raster.{written}
+use Rattle.rfc6386.specs.Picture.{Plane, image, predicted}
+use Rattle.rfc6386.specs.Refusal.{orElse, lowest, ifDone, outside, strideFault, lengthFault, planeRefusal, badStride, noRoom}
+use Rattle.rfc6386.specs.Block.{shown, intoNumber, intoBytes, Into}
 use Rattle.rfc6386.specs.Macroblock.{Source, Reference, sidePlane, planeY, planeU, planeV, sizeTest, strideTest, lengthTest, placeTest, refusal, noSamples, answered}
+use Rattle.rfc6386.specs.Laws.Tests.{or-false}
 use Rattle.rfc6386.specs.Laws.Raster.{row-fits}
+use Rattle.rfc6386.specs.declared.Mv.{Mv}
+use Rattle.rfc6386.specs.declared.FilterSet.{FilterSet}
 use Rattle.rfc6386.specs.declared.ReconstructedMb.{ReconstructedMb}
 use Rattle.rfc6386.specs.declared.Prediction.{Prediction}
 
 -- ---- tests
-or-false : (a b : Bool) → a || b ≡ false → (a ≡ false) × (b ≡ false)
-or-false false b e = (refl, e)
-or-false true b e = let f : _≡_ {A = ℕ} 0 1 = cc in absurd (omega arith)
-
 or-both : {a b : Bool} → a ≡ false → b ≡ false → a || b ≡ false
 or-both p q = ap₂ _||_ p q
 
@@ -49,6 +52,14 @@ pub refused : {A : Type 0} {n : ℕ} (a b : A) → (n ≡ 0 → ⊥) → ifDone 
 unfolding ifDone
 refused {n = zero} a b e = absurd (e refl)
 refused {n = suc n} a b e = refl
+
+-- an answer of a number and samples, by its number n
+module _ {A : Type 0} (answer : ℕ → List ℕ → A) (count : ℕ) {n m : ℕ} (e : n ≡ m) (s : List ℕ) where
+  pub shown-done : {l : List ℕ} → n ≡ 0 → l ≡ s → answer n l ≡ answer m (shown count m s)
+  shown-done z k = ap₂ answer e (k ∙ sym (done s (replicate count 0) (sym e ∙ z)))
+
+  pub shown-refused : (n ≡ 0 → ⊥) → answer n (replicate count 0) ≡ answer m (shown count m s)
+  shown-refused z = ap₂ answer e (sym (refused s (replicate count 0) (λ k. z (e ∙ k))))
 
 -- a number or the next
 pub or-else-first : (n m : ℕ) → (n ≡ 0 → ⊥) → orElse n m ≡ n
@@ -115,6 +126,39 @@ plane-zero p x y A =
     (if-past 2 (stride-fits p (A .fits))
     (if-past 3 (length-fits p (A .fits))
     (if-past 4 (or-both (lt-leb _ _ (A .x-inside)) (lt-leb _ _ (A .y-inside))) refl)))
+
+-- ---- a 4x4 block written into a destination of so many bytes
+pub record Roomy (count stride x y : ℕ) : Type 0 where
+  pub across : x + 4 ≤ stride
+  pub down : (y + 3) * stride + x + 4 ≤ count
+
+pub roomy : (count stride x y : ℕ) → noRoom count stride x y ≡ false → Roomy count stride x y
+roomy count stride x y e =
+    let a = or-false (badStride stride (x + 4)) _ e in
+    let s = or-false (ltb stride (x + 4)) _ (a .0) in
+    let b = or-false (ltb 16383 y) _ (a .1) in
+    record { across = ltb-false _ _ (s .0); down = ltb-false _ _ (b .1) }
+
+module _ (set : FilterSet) {p : Plane} {x y : ℕ} (v : Mv) {dst : List ℕ} {stride dx dy : ℕ} where
+  into-refused : {n : ℕ} → n ≡ intoNumber p x y dst stride dx dy → (n ≡ 0 → ⊥) → Into set p x y v dst stride dx dy n dst
+  unfolding intoBytes
+  into-refused e h = record { number-is = e; bytes-are = sym (refused _ dst (λ k. h (e ∙ k))) }
+
+  pub into-plane : {n : ℕ} → n ≡ planeRefusal p x y → (n ≡ 0 → ⊥) → Into set p x y v dst stride dx dy n dst
+  unfolding intoNumber
+  into-plane e h = into-refused (e ∙ sym (or-else-first _ _ (λ k. h (e ∙ k)))) h
+
+  pub into-no-room : planeRefusal p x y ≡ 0 → noRoom (length dst) stride dx dy ≡ true → Into set p x y v dst stride dx dy 7 dst
+  unfolding intoNumber
+  into-no-room e h = into-refused (sym (or-else-next _ _ e ∙ ap (λ (b : Bool). cond b 7 0) h)) (λ k. omega arith)
+
+  pub into-done : {dst′ : List ℕ} → planeRefusal p x y ≡ 0 → noRoom (length dst) stride dx dy ≡ false
+      → dst′ ≡ written dst stride dx dy 4 4 (λ r c. predicted set (image p) (pos (x + c)) (pos (y + r)) v)
+      → Into set p x y v dst stride dx dy 0 dst′
+  unfolding intoNumber intoBytes
+  into-done e h w =
+      let z = or-else-next _ _ e ∙ ap (λ (b : Bool). cond b 7 0) h in
+      record { number-is = sym z; bytes-are = w ∙ sym (done _ dst z) }
 
 -- ---- a macroblock
 -- sizes that test 1 passes

@@ -1,0 +1,71 @@
+-- What follows where a macroblock is accepted: where it stands in its planes, and what its samples are. Assumes nothing.
+use mathlib.Core.Path.{_≡_, refl, sym, ap, ap₂, _∙_, subst}
+use mathlib.Core.Bool.{Bool}
+use mathlib.Core.List.{List, map}
+use Prim.Native.Nat.{ℕ, _*_, _<_, _≤_}
+use native.Mathlib.Omega.{arith}
+use Rattle.rfc6386.specs.Vector.{fullPixel, each, lowered, sent, quarterAverages, quarterVector}
+use Rattle.rfc6386.specs.Refusal.{planeRefusal}
+use Rattle.rfc6386.specs.Block.{planeOf}
+use Rattle.rfc6386.specs.Macroblock.{Reference, lent, refusal}
+use Rattle.rfc6386.specs.Laws.Steps.{below}
+use Rattle.rfc6386.specs.Laws.Refusals.{Sized, Accepts, accepts, luma-start, u-start, v-start, luma-accepted, u-accepted, v-accepted}
+use Rattle.rfc6386.specs.declared.Mv.{Mv}
+use Rattle.rfc6386.specs.declared.Sizes.{Sizes}
+use Rattle.rfc6386.specs.declared.ReconstructedMb.{ReconstructedMb}
+use Rattle.prediction.specs.Tiles.{Starts}
+use Rattle.prediction.specs.declared.place.Place.{Place}
+
+-- number 0 was given
+pub accepted : {ref : Reference} {col row n : ℕ} → n ≡ refusal ref col row → n ≡ 0 → Accepts ref col row
+accepted {ref} {col} {row} e z = accepts ref col row (sym e ∙ z)
+
+-- the macroblock's place in a plane with n samples to its side
+abbrev pub at : Sizes → ℕ → ℕ → ℕ → Place
+at s col row n = record { w = s .«mb_cols» * n; h = s .«mb_rows» * n; x = col * n; y = row * n }
+
+module _ (y u v : List ℕ) (s : Sizes) (col row : ℕ) (A : Accepts (lent y u v s) col row) where
+  pub room : (side : ℕ) → side ≤ 16 → Sized (s .«mb_cols») (s .«mb_rows») × ((col ≤ 1024) × (row ≤ 1024) × (side ≤ 16))
+  room side h = (
+    record { cols-least = A .cols-least; cols-most = A .cols-most; rows-least = A .rows-least; rows-most = A .rows-most },
+    (omega arith, omega arith, h),
+  )
+
+  -- every call at the place of a macroblock is accepted
+  module _ {p : Place} (e : p ≡ at s col row 16) where
+    pub luma-at : planeRefusal (planeOf y (s .«y_stride») (p .w) (p .h)) (p .x) (p .y) ≡ 0
+    luma-at = subst (λ (q : Place). planeRefusal (planeOf y (s .«y_stride») (q .w) (q .h)) (q .x) (q .y) ≡ 0) (sym e) (luma-start (lent y u v s) col row A)
+
+    pub luma-starts : Starts (planeOf y (s .«y_stride») (p .w) (p .h)) (p .x) (p .y) 16
+    luma-starts =
+        subst (λ (q : Place). Starts (planeOf y (s .«y_stride») (q .w) (q .h)) (q .x) (q .y) 16) (sym e)
+        (record { accepted = luma-accepted (lent y u v s) col row A; x-small = omega (arith, A .col-inside, A .cols-most); y-small = omega (arith, A .row-inside, A .rows-most) })
+
+  module _ {p : Place} (e : p ≡ at s col row 8) where
+    pub u-at : planeRefusal (planeOf u (s .«uv_stride») (p .w) (p .h)) (p .x) (p .y) ≡ 0
+    u-at = subst (λ (q : Place). planeRefusal (planeOf u (s .«uv_stride») (q .w) (q .h)) (q .x) (q .y) ≡ 0) (sym e) (u-start (lent y u v s) col row A)
+
+    pub v-at : planeRefusal (planeOf v (s .«uv_stride») (p .w) (p .h)) (p .x) (p .y) ≡ 0
+    v-at = subst (λ (q : Place). planeRefusal (planeOf v (s .«uv_stride») (q .w) (q .h)) (q .x) (q .y) ≡ 0) (sym e) (v-start (lent y u v s) col row A)
+
+    pub u-starts : Starts (planeOf u (s .«uv_stride») (p .w) (p .h)) (p .x) (p .y) 8
+    u-starts =
+        subst (λ (q : Place). Starts (planeOf u (s .«uv_stride») (q .w) (q .h)) (q .x) (q .y) 8) (sym e)
+        (record { accepted = u-accepted (lent y u v s) col row A; x-small = omega (arith, A .col-inside, A .cols-most); y-small = omega (arith, A .row-inside, A .rows-most) })
+
+    pub v-starts : Starts (planeOf v (s .«uv_stride») (p .w) (p .h)) (p .x) (p .y) 8
+    v-starts =
+        subst (λ (q : Place). Starts (planeOf v (s .«uv_stride») (q .w) (q .h)) (q .x) (q .y) 8) (sym e)
+        (record { accepted = v-accepted (lent y u v s) col row A; x-small = omega (arith, A .col-inside, A .cols-most); y-small = omega (arith, A .row-inside, A .rows-most) })
+
+-- three planes' samples
+pub three : {a a′ b b′ c c′ : List ℕ} → a ≡ a′ → b ≡ b′ → c ≡ c′ → _≡_ {A = ReconstructedMb} (record { y = a; u = b; v = c }) (record { y = a′; u = b′; v = c′ })
+three p q r = λ i. record { y = p i; u = q i; v = r i }
+
+-- a plane's samples from what a call leaves of them, at the place and by the vector that it was given
+pub moved : (f : Place → Mv → List ℕ) {l : List ℕ} {p q : Place} {m k : Mv} → l ≡ f p m → p ≡ q → m ≡ k → l ≡ f q k
+moved f e p m = e ∙ ap₂ f p m
+
+-- the vector of quarter q, from the four of the code
+pub quarter-of : (b : Bool) (vs : List Mv) (q : ℕ) → q < 4 → sent (map (each (lowered b)) (quarterAverages vs)) q ≡ quarterVector (fullPixel b) vs q
+quarter-of b vs q h = below (λ q. sent (map (each (lowered b)) (quarterAverages vs)) q ≡ quarterVector (fullPixel b) vs q) 4 (refl, (refl, (refl, (refl, tt)))) q h

@@ -1,0 +1,93 @@
+// The passes over a halo, at any width: the halo is a square of w + 5 samples a side, the block w samples a side from its row 2, column 2
+// on. A horizontal pass runs over the halo's rows in one line, past the ends of the rows too, and the rows of the block are then packed: so
+// a line is long enough to run as vector code. `steps`, `columns` and `mixes` are room for what a pass leaves; all of each is written.
+ghost use mathlib.Core.Path.{_≡_};
+ghost use Prim.Native.Nat.{_+_, _-_, _*_, _<_};
+ghost use lib.ListN.{length};
+ghost use Rattle.rfc6386.specs.Picture.{haloBlock};
+ghost use Rattle.prediction.specs.Passes.{Halo};
+use crate::rect::copy_rect;
+use crate::step::line;
+use crate::step::mix_line;
+use crate::taps::taps_of;
+use rfc6386::FilterSet;
+
+// The middle of the halo, which is the block where both fractions are 0.
+pub fn core(halo: &[u8], w: usize, out: &mut [u8])
+    requires { ⌜ Halo w (length (now halo)) (length (now out)) ⌝ }
+    ensures { λ _. ⌜ now (out .exit) ≡ haloBlock w FilterSet.Sixtap (now (halo .entry)) 0 0 ⌝ }
+{
+    copy_rect(out, w, 0, 0, w, w, halo, 2 * (w + 5) + 2, w + 5);
+}
+
+// The horizontal pass alone, which is enough where the row fraction is 0.
+pub fn along(halo: &[u8], w: usize, mx: usize, steps: &mut [u8], out: &mut [u8])
+    requires { ⌜ Halo w (length (now halo)) (length (now out)) ⌝ }
+    requires { ⌜ mx < 8 ⌝ }
+    requires { ⌜ length (now steps) ≡ w * (w + 5) - 5 ⌝ }
+    ensures { λ _. ⌜ now (out .exit) ≡ haloBlock w FilterSet.Sixtap (now (halo .entry)) mx 0 ⌝ }
+{
+    let t = taps_of(FilterSet::Sixtap, mx);
+    line(halo, 2 * (w + 5), 1, steps, w * (w + 5) - 5, t);
+    copy_rect(out, w, 0, 0, w, w, steps, 0, w + 5);
+}
+
+// The vertical pass alone, which is enough where the column fraction is 0.
+pub fn down(halo: &[u8], w: usize, my: usize, columns: &mut [u8], out: &mut [u8])
+    requires { ⌜ Halo w (length (now halo)) (length (now out)) ⌝ }
+    requires { ⌜ my < 8 ⌝ }
+    requires { ⌜ length (now columns) ≡ (w + 5) * w ⌝ }
+    ensures { λ _. ⌜ now (out .exit) ≡ haloBlock w FilterSet.Sixtap (now (halo .entry)) 0 my ⌝ }
+{
+    let t = taps_of(FilterSet::Sixtap, my);
+    copy_rect(columns, w, 0, 0, w, w + 5, halo, 2, w + 5);
+    line(columns, 0, w, out, w * w, t);
+}
+
+// The horizontal pass, and the vertical pass over its bytes.
+pub fn both(
+    halo: &[u8],
+    w: usize,
+    mx: usize,
+    my: usize,
+    steps: &mut [u8],
+    columns: &mut [u8],
+    out: &mut [u8],
+)
+    requires { ⌜ Halo w (length (now halo)) (length (now out)) ⌝ }
+    requires { ⌜ mx < 8 ⌝ }
+    requires { ⌜ my < 8 ⌝ }
+    requires { ⌜ length (now steps) ≡ (w + 5) * (w + 5) - 5 ⌝ }
+    requires { ⌜ length (now columns) ≡ (w + 5) * w ⌝ }
+    ensures { λ _. ⌜ now (out .exit) ≡ haloBlock w FilterSet.Sixtap (now (halo .entry)) mx my ⌝ }
+{
+    let tx = taps_of(FilterSet::Sixtap, mx);
+    let ty = taps_of(FilterSet::Sixtap, my);
+    line(halo, 0, 1, steps, (w + 5) * (w + 5) - 5, tx);
+    copy_rect(columns, w, 0, 0, w, w + 5, steps, 0, w + 5);
+    line(columns, 0, w, out, w * w, ty);
+}
+
+// Both passes with rows of the bilinear table, whose other four taps are 0. Nothing is packed before the end.
+pub fn mixed(
+    halo: &[u8],
+    w: usize,
+    mx: usize,
+    my: usize,
+    steps: &mut [u8],
+    mixes: &mut [u8],
+    out: &mut [u8],
+)
+    requires { ⌜ Halo w (length (now halo)) (length (now out)) ⌝ }
+    requires { ⌜ mx < 8 ⌝ }
+    requires { ⌜ my < 8 ⌝ }
+    requires { ⌜ length (now steps) ≡ w * (w + 5) + w ⌝ }
+    requires { ⌜ length (now mixes) ≡ w * (w + 5) - 5 ⌝ }
+    ensures { λ _. ⌜ now (out .exit) ≡ haloBlock w FilterSet.Bilinear (now (halo .entry)) mx my ⌝ }
+{
+    let tx = taps_of(FilterSet::Bilinear, mx);
+    let ty = taps_of(FilterSet::Bilinear, my);
+    mix_line(halo, 2 * (w + 5) + 2, 1, steps, w * (w + 5) + w, tx);
+    mix_line(steps, 0, w + 5, mixes, w * (w + 5) - 5, ty);
+    copy_rect(out, w, 0, 0, w, w, mixes, 0, w + 5);
+}

@@ -1,0 +1,302 @@
+// Prediction of a macroblock from three planes beside a record of their sizes: whole, at whole pixels, split, merging, and by version. Each
+// call takes everything and refuses by number, with samples of zeros.
+ghost use mathlib.Core.Path.{_≡_};
+ghost use lib.Dec.{eqb};
+ghost use Rattle.rfc6386.specs.Filter.{versionSet};
+ghost use mathlib.Core.Bool.{_&&_};
+ghost use Rattle.rfc6386.specs.Vector.{fullPixel, isWhole};
+ghost use Rattle.rfc6386.specs.Macroblock.{lent, whole, split, wholePixel, noSamples};
+use crate::block::block_of_8;
+use crate::block::block_of_16;
+use crate::merging::are_one;
+use crate::place::place_of;
+use crate::refusal::refusal;
+use crate::split::split_chroma;
+use crate::split::split_luma;
+use crate::square::pixels_of_8;
+use crate::square::pixels_of_16;
+use crate::tables::profile_for_version;
+use motion_vectors::chroma_vector;
+use motion_vectors::luma_vector;
+use motion_vectors::quarter_vectors;
+use motion_vectors::whole_pixel_fraction_is_zero;
+use rfc6386::FilterSet;
+use rfc6386::Mv;
+use rfc6386::Prediction;
+use rfc6386::ReconstructedMb;
+use rfc6386::Sizes;
+
+fn refused(number: u32) -> Prediction
+    ensures { λ r. ⌜ r ≡ record { number = number; samples = noSamples } ⌝ }
+{
+    Prediction {
+        number,
+        samples: ReconstructedMb {
+            y: [0u8; 256],
+            u: [0u8; 64],
+            v: [0u8; 64],
+        },
+    }
+}
+
+// One vector for the macroblock.
+pub fn predict_inter_mb(
+    y: &[u8],
+    u: &[u8],
+    v: &[u8],
+    sizes: Sizes,
+    mb_col: usize,
+    mb_row: usize,
+    luma_mv: Mv,
+    full_pixel: bool,
+    set: FilterSet,
+) -> Prediction
+    ensures { λ r. ⌜ r ≡ whole set (fullPixel «full_pixel») (lent (now (y .entry)) (now (u .entry)) (now (v .entry)) sizes) «mb_col» «mb_row» «luma_mv» ⌝ }
+{
+    let number = refusal(y, u, v, sizes, mb_col, mb_row);
+    if number != 0 {
+        return refused(number);
+    }
+    let luma = luma_vector(luma_mv, full_pixel);
+    let chroma = chroma_vector(luma_mv, full_pixel);
+    let y_at = place_of(sizes, mb_col, mb_row, 16);
+    let uv_at = place_of(sizes, mb_col, mb_row, 8);
+    Prediction {
+        number,
+        samples: ReconstructedMb {
+            y: block_of_16(y, sizes.y_stride, y_at.w, y_at.h, y_at.x, y_at.y, luma, set),
+            u: block_of_8(
+                u,
+                sizes.uv_stride,
+                uv_at.w,
+                uv_at.h,
+                uv_at.x,
+                uv_at.y,
+                chroma,
+                set,
+            ),
+            v: block_of_8(
+                v,
+                sizes.uv_stride,
+                uv_at.w,
+                uv_at.h,
+                uv_at.x,
+                uv_at.y,
+                chroma,
+                set,
+            ),
+        },
+    }
+}
+
+// No fraction is left, in any plane.
+fn both_whole(luma: Mv, chroma: Mv) -> bool
+    ensures { λ r. ⌜ r ≡ (isWhole luma && isWhole chroma) ⌝ }
+{
+    whole_pixel_fraction_is_zero(luma) && whole_pixel_fraction_is_zero(chroma)
+}
+
+// The same for a vector that leaves no fraction in any plane, without a filter.
+pub fn predict_inter_mb_whole_pixel(
+    y: &[u8],
+    u: &[u8],
+    v: &[u8],
+    sizes: Sizes,
+    mb_col: usize,
+    mb_row: usize,
+    luma_mv: Mv,
+    full_pixel: bool,
+) -> Prediction
+    ensures { λ r. ⌜ r ≡ wholePixel (fullPixel «full_pixel») (lent (now (y .entry)) (now (u .entry)) (now (v .entry)) sizes) «mb_col» «mb_row» «luma_mv» ⌝ }
+{
+    let number = refusal(y, u, v, sizes, mb_col, mb_row);
+    if number != 0 {
+        return refused(number);
+    }
+    let luma = luma_vector(luma_mv, full_pixel);
+    let chroma = chroma_vector(luma_mv, full_pixel);
+    if !both_whole(luma, chroma) {
+        return refused(8);
+    }
+    let y_at = place_of(sizes, mb_col, mb_row, 16);
+    let uv_at = place_of(sizes, mb_col, mb_row, 8);
+    Prediction {
+        number,
+        samples: ReconstructedMb {
+            y: pixels_of_16(y, sizes.y_stride, y_at.w, y_at.h, y_at.x, y_at.y, luma),
+            u: pixels_of_8(
+                u,
+                sizes.uv_stride,
+                uv_at.w,
+                uv_at.h,
+                uv_at.x,
+                uv_at.y,
+                chroma,
+            ),
+            v: pixels_of_8(
+                v,
+                sizes.uv_stride,
+                uv_at.w,
+                uv_at.h,
+                uv_at.x,
+                uv_at.y,
+                chroma,
+            ),
+        },
+    }
+}
+
+// A vector for each of the sixteen 4x4 luma blocks.
+pub fn predict_split_mv(
+    y: &[u8],
+    u: &[u8],
+    v: &[u8],
+    sizes: Sizes,
+    mb_col: usize,
+    mb_row: usize,
+    split_luma_mvs: [Mv; 16],
+    full_pixel: bool,
+    set: FilterSet,
+) -> Prediction
+    ensures { λ r. ⌜ r ≡ split set (fullPixel «full_pixel») (lent (now (y .entry)) (now (u .entry)) (now (v .entry)) sizes) «mb_col» «mb_row» «split_luma_mvs» ⌝ }
+{
+    let number = refusal(y, u, v, sizes, mb_col, mb_row);
+    if number != 0 {
+        return refused(number);
+    }
+    let chroma = quarter_vectors(split_luma_mvs, full_pixel);
+    let y_at = place_of(sizes, mb_col, mb_row, 16);
+    let uv_at = place_of(sizes, mb_col, mb_row, 8);
+    Prediction {
+        number,
+        samples: ReconstructedMb {
+            y: split_luma(
+                y,
+                sizes.y_stride,
+                y_at.w,
+                y_at.h,
+                y_at.x,
+                y_at.y,
+                split_luma_mvs,
+                full_pixel,
+                set,
+            ),
+            u: split_chroma(
+                u,
+                sizes.uv_stride,
+                uv_at.w,
+                uv_at.h,
+                uv_at.x,
+                uv_at.y,
+                chroma,
+                set,
+            ),
+            v: split_chroma(
+                v,
+                sizes.uv_stride,
+                uv_at.w,
+                uv_at.h,
+                uv_at.x,
+                uv_at.y,
+                chroma,
+                set,
+            ),
+        },
+    }
+}
+
+// Split prediction, by one whole prediction where the sixteen vectors are one.
+pub fn predict_merging(
+    y: &[u8],
+    u: &[u8],
+    v: &[u8],
+    sizes: Sizes,
+    mb_col: usize,
+    mb_row: usize,
+    split_luma_mvs: [Mv; 16],
+    full_pixel: bool,
+    set: FilterSet,
+) -> Prediction
+    ensures { λ r. ⌜ r ≡ split set (fullPixel «full_pixel») (lent (now (y .entry)) (now (u .entry)) (now (v .entry)) sizes) «mb_col» «mb_row» «split_luma_mvs» ⌝ }
+{
+    if are_one(split_luma_mvs) {
+        return predict_inter_mb(
+            y,
+            u,
+            v,
+            sizes,
+            mb_col,
+            mb_row,
+            split_luma_mvs[0],
+            full_pixel,
+            set,
+        );
+    }
+    predict_split_mv(
+        y,
+        u,
+        v,
+        sizes,
+        mb_col,
+        mb_row,
+        split_luma_mvs,
+        full_pixel,
+        set,
+    )
+}
+
+// Whole prediction with the table and the flag of a frame's version.
+pub fn predict_inter_mb_by_version(
+    y: &[u8],
+    u: &[u8],
+    v: &[u8],
+    sizes: Sizes,
+    mb_col: usize,
+    mb_row: usize,
+    luma_mv: Mv,
+    version: u8,
+) -> Prediction
+    ensures { λ r. ⌜ r ≡ whole (versionSet version) (fullPixel (eqb version 3)) (lent (now (y .entry)) (now (u .entry)) (now (v .entry)) sizes) «mb_col» «mb_row» «luma_mv» ⌝ }
+{
+    let profile = profile_for_version(version);
+    let set = profile.set;
+    predict_inter_mb(
+        y,
+        u,
+        v,
+        sizes,
+        mb_col,
+        mb_row,
+        luma_mv,
+        profile.full_pixel,
+        set,
+    )
+}
+
+// Split prediction with them.
+pub fn predict_split_mv_by_version(
+    y: &[u8],
+    u: &[u8],
+    v: &[u8],
+    sizes: Sizes,
+    mb_col: usize,
+    mb_row: usize,
+    split_luma_mvs: [Mv; 16],
+    version: u8,
+) -> Prediction
+    ensures { λ r. ⌜ r ≡ split (versionSet version) (fullPixel (eqb version 3)) (lent (now (y .entry)) (now (u .entry)) (now (v .entry)) sizes) «mb_col» «mb_row» «split_luma_mvs» ⌝ }
+{
+    let profile = profile_for_version(version);
+    let set = profile.set;
+    predict_split_mv(
+        y,
+        u,
+        v,
+        sizes,
+        mb_col,
+        mb_row,
+        split_luma_mvs,
+        profile.full_pixel,
+        set,
+    )
+}
