@@ -3,13 +3,14 @@
 ghost use mathlib.Core.Path.{_≡_};
 ghost use lib.Dec.{eqb};
 ghost use Rattle.rfc6386.specs.Filter.{versionSet};
-ghost use mathlib.Core.Bool.{_&&_};
+ghost use mathlib.Core.Bool.{cond, _&&_};
 ghost use Rattle.rfc6386.specs.Vector.{fullPixel, isWhole};
 ghost use Rattle.rfc6386.specs.Macroblock.{lent, whole, split, wholePixel, noSamples};
 use crate::block::block_of_8;
 use crate::block::block_of_16;
 use crate::merging::are_one;
 use crate::place::place_of;
+use crate::refusal::or_else;
 use crate::refusal::refusal;
 use crate::split::split_chroma;
 use crate::split::split_luma;
@@ -89,11 +90,17 @@ pub fn predict_inter_mb(
     }
 }
 
-// No fraction is left, in any plane.
-fn both_whole(luma: Mv, chroma: Mv) -> bool
-    ensures { λ r. ⌜ r ≡ (isWhole luma && isWhole chroma) ⌝ }
+// Number 8 where a fraction is left, in any plane.
+fn fraction_left(luma: Mv, chroma: Mv) -> u32
+    ensures { λ r. ⌜ r ≡ cond (isWhole luma && isWhole chroma) 0 8 ⌝ }
 {
-    whole_pixel_fraction_is_zero(luma) && whole_pixel_fraction_is_zero(chroma)
+    if !whole_pixel_fraction_is_zero(luma) {
+        return 8;
+    }
+    if !whole_pixel_fraction_is_zero(chroma) {
+        return 8;
+    }
+    0
 }
 
 // The same for a vector that leaves no fraction in any plane, without a filter.
@@ -109,14 +116,13 @@ pub fn predict_inter_mb_whole_pixel(
 ) -> Prediction
     ensures { λ r. ⌜ r ≡ wholePixel (fullPixel «full_pixel») (lent (now (y .entry)) (now (u .entry)) (now (v .entry)) sizes) «mb_col» «mb_row» «luma_mv» ⌝ }
 {
-    let number = refusal(y, u, v, sizes, mb_col, mb_row);
-    if number != 0 {
-        return refused(number);
-    }
     let luma = luma_vector(luma_mv, full_pixel);
     let chroma = chroma_vector(luma_mv, full_pixel);
-    if !both_whole(luma, chroma) {
-        return refused(8);
+    let by_place = refusal(y, u, v, sizes, mb_col, mb_row);
+    let by_fraction = fraction_left(luma, chroma);
+    let number = or_else(by_place, by_fraction);
+    if number != 0 {
+        return refused(number);
     }
     let y_at = place_of(sizes, mb_col, mb_row, 16);
     let uv_at = place_of(sizes, mb_col, mb_row, 8);

@@ -24,6 +24,16 @@ fn lowest(a: u32, b: u32) -> u32
     b
 }
 
+// The first number, or the second where that is 0.
+pub fn or_else(first: u32, second: u32) -> u32
+    ensures { λ r. ⌜ r ≡ numbers.orElse first second ⌝ }
+{
+    if first != 0 {
+        return first;
+    }
+    second
+}
+
 // The picture has no macroblocks, or more than 1024 in a row or column.
 fn size_out(sizes: Sizes) -> bool
     ensures { λ r. ⌜ r ≡ (numbers.outside 1024 (sizes .«mb_cols») || numbers.outside 1024 (sizes .«mb_rows»)) ⌝ }

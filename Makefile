@@ -1,0 +1,103 @@
+# Everything around the proved library: the demonstration, the gate, the
+# comparison with the original Rust, the benchmark and the installation.
+# What is built goes to target/ alone.
+#
+#   make demo               build library and host, run it, write its pictures
+#   make demo-check         the same, and compare what it prints; also as C++17
+#   make check              the gate
+#   make oracle RUST=SRC    compare with the original Rust in folder SRC
+#   make bench RUST=SRC     time both in one run
+#   make install PREFIX=DIR header, library and pkg-config file
+#   make install-check      install into target/ and build the host from there
+#   make clean              remove target/, what is proved included
+#
+# ARCHIVE=FILE takes another static library than the one that rt builds;
+# SHIMS=FILE adds the functions on one plane to the comparison.
+#
+# The library is for x86-64. On another processor the host is cross-compiled and
+# run by an emulator, which tools/x86-64-tools installs; oracle and bench also
+# want RUSTC=..., see tests/x86-64.sh.
+
+VERSION = 0.1.0
+PREFIX = /usr/local
+DESTDIR =
+ARCHIVE = target/staticlib/libthreshowl.a
+PKG_CONFIG = pkg-config
+INSTALL = install
+
+ifneq ($(shell uname -m),x86_64)
+ifeq ($(origin CC),default)
+CC = x86_64-linux-gnu-gcc
+endif
+ifeq ($(origin CXX),default)
+CXX = x86_64-linux-gnu-g++
+endif
+LIBC = $(shell $(CC) -print-file-name=libc.so.6)
+EMULATOR = qemu-x86_64 -L $(LIBC:%/lib/libc.so.6=%)
+endif
+
+WARNINGS = -Wall -Wextra -Wpedantic -Werror -Wconversion -Wsign-conversion -Wshadow -Wcast-qual \
+        -Wwrite-strings -Wundef -Wformat=2 -Wvla -Wdouble-promotion
+AS_C = $(CC) -std=c11 $(WARNINGS) -Wstrict-prototypes -Wmissing-prototypes -O2
+AS_CXX = $(CXX) -std=c++17 $(WARNINGS) -O2
+HOST = examples/lamp_panel.c
+EXPECTED = examples/lamp_panel.expected
+
+.PHONY: demo demo-check check oracle bench install install-check clean tools rust-named FORCE
+
+demo: target/demo/lamp_panel
+	$(EMULATOR) target/demo/lamp_panel target/demo
+	@echo "The pictures are in target/demo."
+
+demo-check: target/demo/lamp_panel target/demo/lamp_panel_cxx
+	$(EMULATOR) target/demo/lamp_panel target/demo >target/demo/printed
+	diff -u $(EXPECTED) target/demo/printed
+	$(EMULATOR) target/demo/lamp_panel_cxx target/demo >target/demo/printed
+	diff -u $(EXPECTED) target/demo/printed
+
+check:
+	bash .ci/run
+
+oracle: rust-named $(ARCHIVE)
+	tests/oracle/run "$(RUST)" "$(ARCHIVE)" $(SHIMS)
+
+bench: rust-named $(ARCHIVE)
+	bench/run "$(RUST)" "$(ARCHIVE)"
+
+install: $(ARCHIVE)
+	$(INSTALL) -d "$(DESTDIR)$(PREFIX)/include" "$(DESTDIR)$(PREFIX)/lib/pkgconfig"
+	$(INSTALL) -m 644 include/threshowl.h "$(DESTDIR)$(PREFIX)/include/threshowl.h"
+	$(INSTALL) -m 644 "$(ARCHIVE)" "$(DESTDIR)$(PREFIX)/lib/libthreshowl.a"
+	sed -e 's|@PREFIX@|$(PREFIX)|' -e 's|@VERSION@|$(VERSION)|' threshowl.pc.in \
+	    >"$(DESTDIR)$(PREFIX)/lib/pkgconfig/threshowl.pc"
+
+INSTALLED = $(CURDIR)/target/installed
+
+install-check:
+	$(MAKE) install PREFIX="$(INSTALLED)" DESTDIR= ARCHIVE="$(ARCHIVE)"
+	PKG_CONFIG_PATH="$(INSTALLED)/lib/pkgconfig" $(PKG_CONFIG) --cflags --libs threshowl \
+	    >target/installed/words
+	$(AS_C) $(HOST) $$(cat target/installed/words) $(LDLIBS) -o target/installed/lamp_panel
+	$(EMULATOR) target/installed/lamp_panel target/installed >target/installed/printed
+	diff -u $(EXPECTED) target/installed/printed
+
+clean:
+	rm -rf target
+
+target/demo/lamp_panel: $(HOST) include/threshowl.h $(ARCHIVE) | tools
+	mkdir -p target/demo
+	$(AS_C) -Iinclude $(HOST) "$(ARCHIVE)" $(LDLIBS) -o $@
+
+target/demo/lamp_panel_cxx: $(HOST) include/threshowl.h $(ARCHIVE) | tools
+	mkdir -p target/demo
+	$(AS_CXX) -Iinclude -x c++ $(HOST) -x none "$(ARCHIVE)" $(LDLIBS) -o $@
+
+tools:
+	tools/x86-64-tools
+
+# rt knows itself what has changed.
+target/staticlib/libthreshowl.a: FORCE
+	rt staticlib threshowl
+
+rust-named:
+	@[ -n "$(RUST)" ] || { echo "say which Rust: make ... RUST=FOLDER-OF-motion_comp.rs" >&2; exit 2; }

@@ -1,0 +1,137 @@
+-- Laws that the proofs of this crate share. Assumes nothing.
+use mathlib.Core.Path.{_≡_, refl, sym, ap, ap₂, _∙_, subst}
+use mathlib.Core.Bool.{Bool, true, false, cond}
+use mathlib.Core.List.{List, [], _++_, append-assoc, append-nil}
+use Prim.Native.Nat.{ℕ, zero, suc, _+_, _-_, _<_, _≤_}
+use native.Mathlib.Numerals.{add-one}
+use native.Mathlib.Omega.{arith}
+use lib.Dec.{eqb}
+use lib.ListN.{length, getD, set, drop, length-append, length-drop, drop-of-length-le}
+use lib.Seq.{paste, paste-suc, getD-set-same, getD-set-other, take-at, take-length, drop-append-add}
+use lib.IntN.{pos, negsuc, _-ℤ_}
+use mir.Syntax.{w16}
+use mir.Val.{SFits, toZ, ofZ}
+use mir.Facts.{toZ-pos}
+use borrow.Author.Tests.{eqb-true}
+use borrow.Author.Count.{below-more}
+use Rattle.signed.specs.Int.{int, diff}
+use Rattle.signed.specs.Held.{Held, nat-at, lit-neg, sub, sub-need}
+use Rattle.rfc6386.specs.Number.{wrap16}
+use Rattle.rfc6386.specs.Refusal.{orElse}
+use Rattle.rfc6386.specs.Macroblock.{answered, noSamples}
+use Rattle.rfc6386.specs.Laws.Vectors.{wrap-in, wrap-high}
+use Rattle.rfc6386.specs.Laws.Refusals.{done, refused}
+use Rattle.threshowl.specs.Boundary.{setOf, flat, roomRefusal, callNumber, Left, refusedBy}
+use Rattle.rfc6386.specs.declared.FilterSet.the-variants.{Bilinear}
+use Rattle.rfc6386.specs.declared.Prediction.{Prediction}
+
+pub set-other : (n : ℕ) → (n ≡ 0 → ⊥) → Bilinear ≡ setOf n
+set-other zero h = absurd (h refl)
+set-other (suc n) h = refl
+
+pub first-stays : (n m : ℕ) → (n ≡ 0 → ⊥) → n ≡ orElse n m
+first-stays zero m h = absurd (h refl)
+first-stays (suc n) m h = refl
+
+-- ---- sixteen bits, read as signed
+pub read-low : (n : ℕ) → n < 32768 → toZ w16 n ≡ wrap16 (pos n)
+read-low n h = toZ-pos w16 h ∙ sym (wrap-in (pos n) (omega arith) (omega arith))
+
+-- -1 - (65535 - n), as the machine computes it
+abbrev under : (n : ℕ) → 32768 ≤ n → Held w16 (negsuc 0 -ℤ pos (65535 - n)) (0 + 0) (1 + 32767)
+under n h = sub (lit-neg 0 tt) (nat-at (65535 - n) 32767 (omega arith) tt) tt
+
+pub under-fits : (n : ℕ) → 32768 ≤ n → SFits w16 (negsuc 0 -ℤ toZ w16 (65535 - n))
+under-fits n h = sub-need (lit-neg 0 tt) (nat-at (65535 - n) 32767 (omega arith) tt) tt
+
+pub read-high : (n : ℕ) → 32768 ≤ n → n < 65536 → toZ w16 (ofZ w16 (negsuc 0 -ℤ toZ w16 (65535 - n))) ≡ wrap16 (pos n)
+read-high n h k =
+    let e : negsuc 0 -ℤ pos (65535 - n) ≡ pos n -ℤ pos 65536 = omega (int, diff (negsuc 0) (pos (65535 - n)), diff (pos n) (pos 65536)) in
+    under n h .is ∙ e ∙ sym (wrap-high (pos n) (omega arith) (omega arith))
+
+-- one more store of a loop that fills a list by index
+pub fill-more : {A : Type 0} (d : A) (f : ℕ → A) (l : List A) (i : ℕ) (v : A) → i < length l → v ≡ f i → ((k : ℕ) → k < i → getD l k d ≡ f k)
+    → (k : ℕ) → k < i + 1 → getD (set l i v) k d ≡ f k
+fill-more d f l i v h e below =
+    below-more (λ (k : ℕ). getD (set l i v) k d ≡ f k) i
+    (λ k m. getD-set-other l i k v d (λ same. omega arith) ∙ below k m)
+    (getD-set-same l i v d h ∙ e)
+
+-- ---- samples written
+-- a turn of the loop that copies
+pub put-more : (d d′ s : List ℕ) (at j : ℕ) → at + j < length d → j < length s → d′ ≡ paste d at s j → set d′ (at + j) (getD s j 0) ≡ paste d at s (j + 1)
+put-more d d′ s at j h k e =
+    ap (λ (x : List ℕ). set x (at + j) (getD s j 0)) e ∙ paste-suc d at s j 0 h k ∙ ap (λ (n : ℕ). paste d at s n) (sym (add-one j))
+
+-- s copied to where d ends
+put-next : (d rest s : List ℕ) (n : ℕ) → length d ≡ n → paste (d ++ rest) n s (length s) ≡ d ++ s ++ drop (length s) rest
+put-next d rest s n e =
+    let k : n + length s ≡ length d + length s = omega arith in
+    ap₂ (λ (a b : List ℕ). a ++ b ++ drop (n + length s) (d ++ rest)) (take-at d rest n e) (take-length s)
+    ∙ ap (λ (m : ℕ). d ++ s ++ drop m (d ++ rest)) k
+    ∙ ap (λ (l : List ℕ). d ++ s ++ l) (drop-append-add d rest (length s))
+
+-- three copies, one after the other, fill an output of their length
+pub put-three : (y u v o o₁ o₂ o₃ : List ℕ) → length y ≡ 256 → length u ≡ 64 → length v ≡ 64 → length o ≡ 384
+    → o₁ ≡ paste o 0 y (length y) → o₂ ≡ paste o₁ 256 u (length u) → o₃ ≡ paste o₂ 320 v (length v) → o₃ ≡ y ++ (u ++ v)
+put-three y u v o o₁ o₂ o₃ hy hu hv ho e₁ e₂ e₃ =
+    let r₁ = drop (length y) o in
+    let r₂ = drop (length u) r₁ in
+    let d₁ : o₁ ≡ y ++ r₁ = e₁ ∙ put-next [] o y 0 refl in
+    let d₂ : o₂ ≡ y ++ u ++ r₂ = e₂ ∙ ap (λ (l : List ℕ). paste l 256 u (length u)) d₁ ∙ put-next y r₁ u 256 hy in
+    let long : length (y ++ u) ≡ 320 = omega (arith, length-append y u) in
+    let end : length r₂ ≤ length v = omega (arith, length-drop (length y) o, length-drop (length u) r₁) in
+    e₃
+    ∙ ap (λ (l : List ℕ). paste l 320 v (length v)) d₂
+    ∙ put-next (y ++ u) r₂ v 320 long
+    ∙ ap (λ (l : List ℕ). y ++ u ++ v ++ l) (drop-of-length-le r₂ end)
+    ∙ append-nil (y ++ u ++ v)
+    ∙ append-assoc y u v
+
+-- ---- how a call ends
+zeros : (n m : ℕ) → orElse n m ≡ 0 → m ≡ 0
+zeros zero m e = e
+zeros (suc n) m e = absurd (omega arith)
+
+no-7 : (n : ℕ) → roomRefusal n ≡ 0 → n ≡ 384
+no-7 n e = at (eqb n 384) refl e
+  where
+    at : (b : Bool) → eqb n 384 ≡ b → _≡_ {A = ℕ} (cond b 0 7) 0 → n ≡ 384
+    at true t e = eqb-true n 384 t
+    at false t e = absurd (omega arith)
+
+module _ (p : Prediction) (codes : ℕ) (out : List ℕ) (n : ℕ) (e : n ≡ callNumber p codes out) where
+  pub left-refused : (n ≡ 0 → ⊥) → Left p codes out n out
+  left-refused h = record { number-is = e; bytes-are = sym (refused (flat (p .samples)) out (λ z. h (e ∙ z))) }
+
+  pub has-room : n ≡ 0 → length out ≡ 384
+  has-room z = no-7 (length out) (zeros codes _ (zeros (p .number) _ (sym e ∙ z)))
+
+  pub left-done : (out′ : List ℕ) → n ≡ 0 → out′ ≡ flat (p .samples) → Left p codes out 0 out′
+  left-done out′ z w = record { number-is = sym z ∙ e; bytes-are = w ∙ sym (done (flat (p .samples)) out (sym e ∙ z)) }
+
+pub left-as : {p q : Prediction} {n m : ℕ} {out out′ : List ℕ} {r : ℕ} → p ≡ q → n ≡ m → Left p n out r out′ → Left q m out r out′
+left-as {out} {out′} {r} e f h = subst (λ (x : Prediction × ℕ). Left (x .0) (x .1) out r out′) (λ i. (e i, f i)) h
+
+-- ---- a number that comes after a prediction's own
+own-zero : (n m : ℕ) → orElse n m ≡ 0 → n ≡ 0
+own-zero zero m e = refl
+own-zero (suc n) m e = e
+
+module _ (p : Prediction) (number n : ℕ) (e : n ≡ orElse (p .number) number) where
+  pub refused-not : n ≡ 0 → p ≡ refusedBy number p
+  unfolding refusedBy answered
+  refused-not z =
+      let zero-is : orElse (p .number) number ≡ 0 = sym e ∙ z in
+      λ i. record { number = (own-zero (p .number) number zero-is ∙ sym zero-is) i; samples = sym (done (p .samples) noSamples zero-is) i }
+
+  pub refused-too : (n ≡ 0 → ⊥) → record { number = n; samples = noSamples } ≡ refusedBy number p
+  unfolding refusedBy answered
+  refused-too h = λ i. record { number = e i; samples = sym (refused (p .samples) noSamples (λ z. h (e ∙ z))) i }
+
+-- ---- THEOREM. No two outcomes satisfy one contract: an equation, and a call's number with the bytes that it leaves.
+pub one-answer : {A : Type 0} {a b c : A} → a ≡ c → b ≡ c → a ≡ b
+one-answer p q = p ∙ sym q
+
+pub one-outcome : {p : Prediction} {codes : ℕ} {out : List ℕ} {r s : ℕ} {a b : List ℕ} → Left p codes out r a → Left p codes out s b → (r ≡ s) × (a ≡ b)
+one-outcome h k = (one-answer (h .number-is) (k .number-is), one-answer (h .bytes-are) (k .bytes-are))

@@ -1,0 +1,4 @@
+pub mod Laws
+pub mod Thin
+pub mod PlaneEntries
+pub mod ListWalk

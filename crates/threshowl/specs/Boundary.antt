@@ -1,0 +1,83 @@
+-- What crosses the boundary: codes and flags, vectors as records and as bytes, and the samples of a macroblock as 384 bytes.
+use mathlib.Core.Path.{_≡_}
+use mathlib.Core.Bool.{Bool, cond, not}
+use mathlib.Core.List.{List, _++_}
+use Prim.Native.Nat.{ℕ, zero, suc, _+_, _*_}
+use lib.Dec.{ltb, eqb}
+use lib.ListN.{length, getD, replicate}
+use lib.IntN.{ℤ, pos}
+use Rattle.rfc6386.specs.Number.{wrap16}
+use Rattle.rfc6386.specs.Vector.{zeroVector}
+use Rattle.rfc6386.specs.Raster.{tab}
+use Rattle.rfc6386.specs.Refusal.{orElse, ifDone}
+use Rattle.rfc6386.specs.Macroblock.{answered}
+use Rattle.rfc6386.specs.declared.Mv.{Mv}
+use Rattle.rfc6386.specs.declared.FilterSet.{FilterSet}
+use Rattle.rfc6386.specs.declared.FilterSet.the-variants.{Sixtap, Bilinear}
+use Rattle.rfc6386.specs.declared.ReconstructedMb.{ReconstructedMb}
+use Rattle.rfc6386.specs.declared.Prediction.{Prediction}
+
+-- ---- codes
+-- filter code 0 is six-tap, 1 bilinear, every other gets number 5
+abbrev pub setOf : ℕ → FilterSet
+setOf zero = Sixtap
+setOf (suc n) = Bilinear
+
+abbrev pub codeRefusal : ℕ → ℕ
+codeRefusal code = cond (ltb 1 code) 5 0
+
+-- flag 0 is off, every other on
+abbrev pub flagOf : ℕ → Bool
+flagOf n = not (eqb n 0)
+
+-- ---- vectors
+-- number 6: not so many as there should be
+abbrev pub countRefusal : ℕ → ℕ → ℕ
+countRefusal due n = cond (eqb n due) 0 6
+
+-- of a call that is lent its vectors as bytes: 5 comes before 6
+abbrev pub codesRefusal : ℕ → ℕ → ℕ
+codesRefusal code count = orElse (codeRefusal code) (countRefusal 64 count)
+
+-- a signed 16-bit number, its low byte first
+abbrev pub int16 : ℕ → ℕ → ℤ
+int16 low high = wrap16 (pos (low + 256 * high))
+
+-- vector i: two such numbers, row before column
+abbrev pub vectorAt : List ℕ → ℕ → Mv
+vectorAt b i =
+    record { row = int16 (getD b (4 * i) 0) (getD b (4 * i + 1) 0); col = int16 (getD b (4 * i + 2) 0) (getD b (4 * i + 3) 0) }
+
+-- sixteen of them; a byte past the end counts as 0
+unfoldable pub vectorsOf : List ℕ → List Mv
+vectorsOf b = tab 16 (vectorAt b)
+
+-- a lent list of vectors as sixteen, zeros where it has not so many
+unfoldable pub sixteenOf : List Mv → List Mv
+sixteenOf l = ifDone (countRefusal 16 (length l)) l (replicate 16 zeroVector)
+
+-- a prediction that number n refuses too, after its own numbers
+unfoldable pub refusedBy : ℕ → Prediction → Prediction
+refusedBy n p = answered (orElse (p .number) n) (p .samples)
+
+-- a prediction from a lent list of so many vectors
+abbrev pub listed : Prediction → ℕ → Prediction
+listed p count = refusedBy (countRefusal 16 count) p
+
+-- ---- the output
+-- the samples of a macroblock one after the other
+abbrev pub flat : ReconstructedMb → List ℕ
+flat s = s .y ++ (s .u ++ s .v)
+
+-- number 7: an output that has not 384 bytes
+abbrev pub roomRefusal : ℕ → ℕ
+roomRefusal n = cond (eqb n 384) 0 7
+
+-- a call's number: the prediction's own, then that of its codes, then 7
+abbrev pub callNumber : Prediction → ℕ → List ℕ → ℕ
+callNumber p codes out = orElse (p .number) (orElse codes (roomRefusal (length out)))
+
+-- what a call leaves: its number r, and the output's bytes, which it keeps where it refuses
+pub record Left (p : Prediction) (codes : ℕ) (out : List ℕ) (r : ℕ) (out′ : List ℕ) : Type 0 where
+  pub number-is : r ≡ callNumber p codes out
+  pub bytes-are : out′ ≡ ifDone (callNumber p codes out) (flat (p .samples)) out

@@ -1,0 +1,2 @@
+-- What crosses the boundary: codes, lists of vectors, bytes.
+pub mod Boundary

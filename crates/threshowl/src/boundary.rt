@@ -1,0 +1,171 @@
+// Prediction for C: numbers, bytes, and an output of 384 bytes that a refused call leaves as it was. A slice is a pointer and a length.
+ghost use mathlib.Core.Path.{_≡_};
+ghost use lib.ListN.{length};
+ghost use Rattle.rfc6386.specs.Vector.{fullPixel};
+ghost use Rattle.rfc6386.specs.Macroblock.{lent, whole, split};
+ghost use Rattle.threshowl.specs.Boundary.{setOf, flagOf, codeRefusal, codesRefusal, vectorsOf, Left};
+use crate::output::write_samples;
+use crate::refusals::code_refusal;
+use crate::refusals::count_refusal;
+use crate::refusals::or_else;
+use crate::refusals::room_refusal;
+use crate::vectors::mvs_of_bytes;
+use prediction::predict_inter_mb;
+use prediction::predict_merging;
+use prediction::predict_split_mv;
+use rfc6386::FilterSet;
+use rfc6386::Mv;
+use rfc6386::Prediction;
+use rfc6386::Sizes;
+
+fn set_of(filter: u8) -> FilterSet
+    ensures { λ r. ⌜ r ≡ setOf filter ⌝ }
+{
+    if filter == 0 {
+        return FilterSet::Sixtap;
+    }
+    FilterSet::Bilinear
+}
+
+fn codes_refusal(filter: u8, count: usize) -> u32
+    ensures { λ r. ⌜ r ≡ codesRefusal filter count ⌝ }
+{
+    let code = code_refusal(filter);
+    let vectors = count_refusal(64, count);
+    or_else(code, vectors)
+}
+
+// Ends a call: gives its number, and writes the samples where that is 0. `codes` is the number that its codes get.
+fn finish(p: Prediction, codes: u32, out: &mut [u8]) -> u32
+    ensures { λ r. ⌜ Left p codes (now (out .entry)) r (now (out .exit)) ⌝ }
+{
+    let own = p.number;
+    let n = or_else(own, or_else(codes, room_refusal(out.len())));
+    if n != 0 {
+        return n;
+    }
+    let samples = p.samples;
+    write_samples(out, samples);
+    0
+}
+
+#[no_mangle]
+pub extern "C" fn threshowl_predict_whole(
+    y: &[u8],
+    u: &[u8],
+    v: &[u8],
+    y_stride: usize,
+    uv_stride: usize,
+    mb_cols: usize,
+    mb_rows: usize,
+    mb_col: usize,
+    mb_row: usize,
+    mv_row: i16,
+    mv_col: i16,
+    filter: u8,
+    full_pixel: u8,
+    out: &mut [u8],
+) -> u32
+    ensures { λ r. ⌜ Left (whole (setOf filter) (fullPixel (flagOf «full_pixel»)) (lent (now (y .entry)) (now (u .entry)) (now (v .entry)) (record { «y_stride» = «y_stride»; «uv_stride» = «uv_stride»; «mb_cols» = «mb_cols»; «mb_rows» = «mb_rows» })) «mb_col» «mb_row» (record { row = «mv_row»; col = «mv_col» })) (codeRefusal filter) (now (out .entry)) r (now (out .exit)) ⌝ }
+{
+    let sizes = Sizes {
+        y_stride,
+        uv_stride,
+        mb_cols,
+        mb_rows,
+    };
+    let mv = Mv {
+        row: mv_row,
+        col: mv_col,
+    };
+    let p = predict_inter_mb(
+        y,
+        u,
+        v,
+        sizes,
+        mb_col,
+        mb_row,
+        mv,
+        full_pixel != 0,
+        set_of(filter),
+    );
+    finish(p, code_refusal(filter), out)
+}
+
+#[no_mangle]
+pub extern "C" fn threshowl_predict_split(
+    y: &[u8],
+    u: &[u8],
+    v: &[u8],
+    y_stride: usize,
+    uv_stride: usize,
+    mb_cols: usize,
+    mb_rows: usize,
+    mb_col: usize,
+    mb_row: usize,
+    vectors: &[u8],
+    filter: u8,
+    full_pixel: u8,
+    out: &mut [u8],
+) -> u32
+    ensures { λ r. ⌜ Left (split (setOf filter) (fullPixel (flagOf «full_pixel»)) (lent (now (y .entry)) (now (u .entry)) (now (v .entry)) (record { «y_stride» = «y_stride»; «uv_stride» = «uv_stride»; «mb_cols» = «mb_cols»; «mb_rows» = «mb_rows» })) «mb_col» «mb_row» (vectorsOf (now (vectors .entry)))) (codesRefusal filter (length (now (vectors .entry)))) (now (out .entry)) r (now (out .exit)) ⌝ }
+{
+    let sizes = Sizes {
+        y_stride,
+        uv_stride,
+        mb_cols,
+        mb_rows,
+    };
+    let mvs = mvs_of_bytes(vectors);
+    let p = predict_split_mv(
+        y,
+        u,
+        v,
+        sizes,
+        mb_col,
+        mb_row,
+        mvs,
+        full_pixel != 0,
+        set_of(filter),
+    );
+    finish(p, codes_refusal(filter, vectors.len()), out)
+}
+
+#[no_mangle]
+pub extern "C" fn threshowl_predict_merging(
+    y: &[u8],
+    u: &[u8],
+    v: &[u8],
+    y_stride: usize,
+    uv_stride: usize,
+    mb_cols: usize,
+    mb_rows: usize,
+    mb_col: usize,
+    mb_row: usize,
+    vectors: &[u8],
+    filter: u8,
+    full_pixel: u8,
+    out: &mut [u8],
+) -> u32
+    ensures { λ r. ⌜ Left (split (setOf filter) (fullPixel (flagOf «full_pixel»)) (lent (now (y .entry)) (now (u .entry)) (now (v .entry)) (record { «y_stride» = «y_stride»; «uv_stride» = «uv_stride»; «mb_cols» = «mb_cols»; «mb_rows» = «mb_rows» })) «mb_col» «mb_row» (vectorsOf (now (vectors .entry)))) (codesRefusal filter (length (now (vectors .entry)))) (now (out .entry)) r (now (out .exit)) ⌝ }
+{
+    let sizes = Sizes {
+        y_stride,
+        uv_stride,
+        mb_cols,
+        mb_rows,
+    };
+    let mvs = mvs_of_bytes(vectors);
+    let p = predict_merging(
+        y,
+        u,
+        v,
+        sizes,
+        mb_col,
+        mb_row,
+        mvs,
+        full_pixel != 0,
+        set_of(filter),
+    );
+    finish(p, codes_refusal(filter, vectors.len()), out)
+}

@@ -1,0 +1,40 @@
+// Numbers 5, 6 and 7, and the lowest of two numbers that apply.
+ghost use mathlib.Core.Path.{_≡_};
+ghost use Rattle.rfc6386.specs.Refusal.{orElse};
+ghost use Rattle.threshowl.specs.Boundary.{codeRefusal, countRefusal, roomRefusal};
+
+pub fn code_refusal(filter: u8) -> u32
+    ensures { λ r. ⌜ r ≡ codeRefusal filter ⌝ }
+{
+    if 1 < filter {
+        return 5;
+    }
+    0
+}
+
+pub fn count_refusal(due: usize, count: usize) -> u32
+    ensures { λ r. ⌜ r ≡ countRefusal due count ⌝ }
+{
+    if count == due {
+        return 0;
+    }
+    6
+}
+
+pub fn room_refusal(room: usize) -> u32
+    ensures { λ r. ⌜ r ≡ roomRefusal room ⌝ }
+{
+    if room == 384 {
+        return 0;
+    }
+    7
+}
+
+pub fn or_else(first: u32, next: u32) -> u32
+    ensures { λ r. ⌜ r ≡ orElse first next ⌝ }
+{
+    if first == 0 {
+        return next;
+    }
+    first
+}

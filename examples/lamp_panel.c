@@ -1,0 +1,533 @@
+/*
+ * lamp_panel.c: a small host of the library, and its demonstration.
+ *
+ *   lamp_panel FOLDER
+ *
+ * It paints a rack's panel of three modules.  The left one has an unlit lamp,
+ * the right one a lit red lamp, and the middle one is predicted: whole, split
+ * and merged, once with a vector that merging may fetch whole and once with one
+ * just outside the range, where only a careless decoder would.  It prints what
+ * differs, provokes every number that a call gives back, and writes into FOLDER
+ * pictures of what the desk would see.
+ *
+ * Exit status: 0 when all is as the header says, 1 when something is not, 2 on
+ * bad usage.  Stock C11, and C++17 as well.
+ */
+#include <stdint.h>
+#include <stdio.h>
+#include <stdlib.h>
+#include <string.h>
+
+#include "threshowl.h"
+
+enum {
+    MB_COLS = 3,
+    MB_ROWS = 2,
+    Y_WIDTH = MB_COLS * 16,
+    Y_HEIGHT = MB_ROWS * 16,
+    UV_WIDTH = MB_COLS * 8,
+    UV_HEIGHT = MB_ROWS * 8,
+    Y_LEN = Y_WIDTH * Y_HEIGHT,
+    UV_LEN = UV_WIDTH * UV_HEIGHT,
+
+    /* The macroblock that is predicted: the middle module's lamp. */
+    MB_COL = 1,
+    MB_ROW = 0,
+
+    /* Where U and V begin in an answer. */
+    OUT_U = 256,
+    OUT_V = 320,
+
+    /* Each sample becomes a square of so many picture points. */
+    SCALE = 10,
+    PNG_WIDTH = Y_WIDTH * SCALE,
+    PNG_HEIGHT = Y_HEIGHT * SCALE,
+    PNG_ROW = 1 + 3 * PNG_WIDTH
+};
+
+typedef struct {
+    uint8_t y[Y_LEN];
+    uint8_t u[UV_LEN];
+    uint8_t v[UV_LEN];
+} Picture;
+
+typedef struct {
+    uint8_t y, u, v;
+} Colour;
+
+typedef struct {
+    uint8_t bytes[THRESHOWL_OUT_LEN];
+} Answer;
+
+static int failures = 0;
+
+static void expect(int holds, const char *what)
+{
+    if (!holds) {
+        fprintf(stderr, "NOT AS IT SHOULD BE: %s\n", what);
+        failures++;
+    }
+}
+
+/* ---- The panel ---- */
+
+/* Fills a rectangle given in luma samples; places and sizes are even. */
+static void fill(Picture *p, size_t x, size_t y, size_t w, size_t h, Colour c)
+{
+    size_t row, col;
+    for (row = y; row < y + h; row++) {
+        for (col = x; col < x + w; col++) {
+            p->y[row * Y_WIDTH + col] = c.y;
+            p->u[row / 2 * UV_WIDTH + col / 2] = c.u;
+            p->v[row / 2 * UV_WIDTH + col / 2] = c.v;
+        }
+    }
+}
+
+/* A bar lamp in a dark bezel, brightest in its middle.  Lit and unlit lamps
+   have the same luma, so that chroma alone tells them apart. */
+static void lamp(Picture *p, size_t x, size_t w, uint8_t u, uint8_t v)
+{
+    static const uint8_t glow[4] = {84, 104, 104, 84};
+    const Colour bezel = {48, 128, 128};
+    size_t i;
+    fill(p, x, 2, w, 12, bezel);
+    for (i = 0; i < 4; i++) {
+        const Colour c = {glow[i], u, v};
+        fill(p, x, 4 + 2 * i, w, 2, c);
+    }
+}
+
+/* The lamps reach the picture's left and right edges: a far vector's fetch is
+   clamped to one of those edges, and repeats what it finds there. */
+static void paint_panel(Picture *p)
+{
+    const Colour panel = {176, 128, 128};
+    const Colour seam = {120, 128, 128};
+    const Colour slit = {72, 128, 128};
+    size_t y;
+    fill(p, 0, 0, Y_WIDTH, Y_HEIGHT, panel);
+    fill(p, 14, 0, 2, Y_HEIGHT, seam);
+    fill(p, 32, 0, 2, Y_HEIGHT, seam);
+    lamp(p, 0, 12, 128, 128);
+    lamp(p, 36, 12, 90, 240);
+    for (y = 20; y < Y_HEIGHT; y += 4) {
+        fill(p, 2, y, 10, 2, slit);
+        fill(p, 18, y, 12, 2, slit);
+        fill(p, 36, y, 10, 2, slit);
+    }
+}
+
+/* The picture as the desk shows it: the panel with the macroblock predicted. */
+static void place(Picture *p, const Answer *a)
+{
+    size_t i;
+    for (i = 0; i < 16; i++)
+        memcpy(p->y + (MB_ROW * 16 + i) * Y_WIDTH + MB_COL * 16, a->bytes + i * 16, 16);
+    for (i = 0; i < 8; i++) {
+        const size_t at = (MB_ROW * 8 + i) * UV_WIDTH + MB_COL * 8;
+        memcpy(p->u + at, a->bytes + OUT_U + i * 8, 8);
+        memcpy(p->v + at, a->bytes + OUT_V + i * 8, 8);
+    }
+}
+
+/* ---- PNG, with its data stored and not compressed ---- */
+
+typedef struct {
+    FILE *file;
+    uint32_t crc;
+} Png;
+
+static void png_bytes(Png *png, const uint8_t *bytes, size_t n)
+{
+    size_t i;
+    int bit;
+    for (i = 0; i < n; i++) {
+        png->crc ^= bytes[i];
+        for (bit = 0; bit < 8; bit++)
+            png->crc = (png->crc >> 1) ^ ((png->crc & 1U) ? 0xEDB88320U : 0U);
+    }
+    fwrite(bytes, 1, n, png->file);
+}
+
+static void png_u32(Png *png, uint32_t n)
+{
+    const uint8_t b[4] = {(uint8_t)(n >> 24), (uint8_t)(n >> 16 & 255U), (uint8_t)(n >> 8 & 255U),
+                          (uint8_t)(n & 255U)};
+    png_bytes(png, b, sizeof b);
+}
+
+static void png_begin_chunk(Png *png, const char *name, size_t length)
+{
+    uint8_t tag[4];
+    memcpy(tag, name, sizeof tag);
+    png_u32(png, (uint32_t)length);
+    png->crc = 0xFFFFFFFFU;
+    png_bytes(png, tag, sizeof tag);
+}
+
+static void png_end_chunk(Png *png)
+{
+    png_u32(png, png->crc ^ 0xFFFFFFFFU);
+}
+
+static uint32_t adler32(const uint8_t *bytes, size_t n)
+{
+    uint32_t a = 1, b = 0;
+    size_t i;
+    for (i = 0; i < n; i++) {
+        a = (a + bytes[i]) % 65521U;
+        b = (b + a) % 65521U;
+    }
+    return b << 16 | a;
+}
+
+/* One row of the picture is one stored block: its header is the mark of the
+   last block, the row's length and that length's complement. */
+static void png_stored_row(Png *png, const uint8_t *row, int last)
+{
+    const unsigned not_length = 0xFFFFU - PNG_ROW;
+    const uint8_t head[5] = {(uint8_t)(last ? 1 : 0), PNG_ROW % 256, PNG_ROW / 256,
+                             (uint8_t)(not_length % 256U), (uint8_t)(not_length / 256U)};
+    png_bytes(png, head, sizeof head);
+    png_bytes(png, row, PNG_ROW);
+}
+
+static void png_data(Png *png, const uint8_t *rows)
+{
+    static const uint8_t zlib_head[2] = {0x78, 0x01};
+    size_t i;
+    png_begin_chunk(png, "IDAT", sizeof zlib_head + PNG_HEIGHT * (5 + PNG_ROW) + 4);
+    png_bytes(png, zlib_head, sizeof zlib_head);
+    for (i = 0; i < PNG_HEIGHT; i++)
+        png_stored_row(png, rows + i * PNG_ROW, i + 1 == PNG_HEIGHT);
+    png_u32(png, adler32(rows, (size_t)PNG_HEIGHT * PNG_ROW));
+    png_end_chunk(png);
+}
+
+static void png_header(Png *png)
+{
+    static const uint8_t signature[8] = {137, 80, 78, 71, 13, 10, 26, 10};
+    static const uint8_t eight_bit_rgb[5] = {8, 2, 0, 0, 0};
+    png_bytes(png, signature, sizeof signature);
+    png_begin_chunk(png, "IHDR", 13);
+    png_u32(png, PNG_WIDTH);
+    png_u32(png, PNG_HEIGHT);
+    png_bytes(png, eight_bit_rgb, sizeof eight_bit_rgb);
+    png_end_chunk(png);
+}
+
+static uint8_t clip(int scaled)
+{
+    if (scaled < 0)
+        return 0;
+    return (uint8_t)(scaled / 256 > 255 ? 255 : scaled / 256);
+}
+
+/* BT.601, studio range. */
+static void to_rgb(const Picture *p, size_t x, size_t y, uint8_t *rgb)
+{
+    const size_t at = y / 2 * UV_WIDTH + x / 2;
+    const int luma = 298 * (p->y[y * Y_WIDTH + x] - 16) + 128;
+    const int u = p->u[at] - 128;
+    const int v = p->v[at] - 128;
+    rgb[0] = clip(luma + 409 * v);
+    rgb[1] = clip(luma - 100 * u - 208 * v);
+    rgb[2] = clip(luma + 516 * u);
+}
+
+/* Whether a picture point lies on the frame drawn round the macroblock.  Left of
+   the macroblock and above it the difference wraps, and is large. */
+static int on_frame(size_t x, size_t y)
+{
+    const size_t side = 16 * SCALE, thick = SCALE / 4;
+    const size_t dx = x - MB_COL * side, dy = y - MB_ROW * side;
+    if (dx >= side || dy >= side)
+        return 0;
+    return dx < thick || dy < thick || dx >= side - thick || dy >= side - thick;
+}
+
+static void render(const Picture *p, uint8_t *rows)
+{
+    static const uint8_t frame[3] = {255, 208, 0};
+    size_t x, y;
+    for (y = 0; y < PNG_HEIGHT; y++) {
+        uint8_t *row = rows + y * PNG_ROW;
+        row[0] = 0; /* no prediction of the row from its neighbours */
+        for (x = 0; x < PNG_WIDTH; x++) {
+            if (on_frame(x, y))
+                memcpy(row + 1 + 3 * x, frame, 3);
+            else
+                to_rgb(p, x / SCALE, y / SCALE, row + 1 + 3 * x);
+        }
+    }
+}
+
+static void write_png(const char *folder, const char *name, const Picture *p)
+{
+    static uint8_t rows[PNG_HEIGHT * PNG_ROW];
+    char path[4096];
+    Png png = {NULL, 0};
+    const int length = snprintf(path, sizeof path, "%s/%s", folder, name);
+    int bad;
+    if (length > 0 && (size_t)length < sizeof path)
+        png.file = fopen(path, "wb");
+    if (png.file == NULL) {
+        expect(0, "a picture's file can be opened");
+        return;
+    }
+    render(p, rows);
+    png_header(&png);
+    png_data(&png, rows);
+    png_begin_chunk(&png, "IEND", 0);
+    png_end_chunk(&png);
+    bad = ferror(png.file);
+    bad |= fclose(png.file);
+    expect(!bad, "a picture is written");
+    printf("  %s\n", name);
+}
+
+/* ---- Calls of the library ---- */
+
+typedef struct {
+    const Picture *picture;
+    size_t y_len, u_len, v_len, y_stride, uv_stride;
+    size_t mb_cols, mb_rows, mb_col, mb_row;
+    int16_t row, col;
+    size_t vectors_len;
+    uint8_t filter, full_pixel;
+    size_t out_len;
+} Call;
+
+static Call good_call(const Picture *p, int16_t row, int16_t col)
+{
+    const Call c = {p,       Y_LEN,  UV_LEN, UV_LEN, Y_WIDTH, UV_WIDTH,
+                    MB_COLS, MB_ROWS, MB_COL, MB_ROW, row,     col,
+                    THRESHOWL_VECTORS_LEN, THRESHOWL_SIXTAP, 0, THRESHOWL_OUT_LEN};
+    return c;
+}
+
+static void put_i16(uint8_t *at, int16_t n)
+{
+    const uint16_t bits = (uint16_t)n;
+    at[0] = (uint8_t)(bits & 255U);
+    at[1] = (uint8_t)(bits >> 8);
+}
+
+/* The call's vector, sixteen times. */
+static void sixteen(const Call *c, uint8_t *vectors)
+{
+    size_t i;
+    for (i = 0; i < 16; i++) {
+        put_i16(vectors + 4 * i, c->row);
+        put_i16(vectors + 4 * i + 2, c->col);
+    }
+}
+
+static uint32_t whole(const Call *c, Answer *a)
+{
+    const Picture *p = c->picture;
+    return threshowl_predict_whole(p->y, c->y_len, p->u, c->u_len, p->v, c->v_len, c->y_stride,
+                                   c->uv_stride, c->mb_cols, c->mb_rows, c->mb_col, c->mb_row,
+                                   c->row, c->col, c->filter, c->full_pixel, a->bytes, c->out_len);
+}
+
+static uint32_t split(const Call *c, Answer *a)
+{
+    const Picture *p = c->picture;
+    uint8_t vectors[THRESHOWL_VECTORS_LEN];
+    sixteen(c, vectors);
+    return threshowl_predict_split(p->y, c->y_len, p->u, c->u_len, p->v, c->v_len, c->y_stride,
+                                   c->uv_stride, c->mb_cols, c->mb_rows, c->mb_col, c->mb_row,
+                                   vectors, c->vectors_len, c->filter, c->full_pixel, a->bytes,
+                                   c->out_len);
+}
+
+static uint32_t merging(const Call *c, Answer *a)
+{
+    const Picture *p = c->picture;
+    uint8_t vectors[THRESHOWL_VECTORS_LEN];
+    sixteen(c, vectors);
+    return threshowl_predict_merging(p->y, c->y_len, p->u, c->u_len, p->v, c->v_len, c->y_stride,
+                                     c->uv_stride, c->mb_cols, c->mb_rows, c->mb_col, c->mb_row,
+                                     vectors, c->vectors_len, c->filter, c->full_pixel, a->bytes,
+                                     c->out_len);
+}
+
+enum { WHOLE, SPLIT, MERGING, FORMS };
+
+typedef struct {
+    const char *name;
+    uint32_t (*predict)(const Call *, Answer *);
+} Form;
+
+static const Form forms[FORMS] = {{"whole", whole}, {"split", split}, {"merging", merging}};
+
+/* ---- The same macroblock predicted in three ways ---- */
+
+static const char *lamp_colour(const Answer *a)
+{
+    const uint8_t u = a->bytes[OUT_U + 4 * 8 + 4];
+    const uint8_t v = a->bytes[OUT_V + 4 * 8 + 4];
+    if (u == 128 && v == 128)
+        return "grey";
+    return u < 128 && v > 192 ? "red" : "of another colour";
+}
+
+static unsigned differing(const Answer *a, const Answer *b, size_t from, size_t to)
+{
+    unsigned n = 0;
+    size_t i;
+    for (i = from; i < to; i++)
+        n += a->bytes[i] != b->bytes[i];
+    return n;
+}
+
+static void print_difference(const char *title, const Answer *a, const Answer *b)
+{
+    printf("  %-22s %u of 256 Y, %u of 64 U, %u of 64 V differ\n", title,
+           differing(a, b, 0, OUT_U), differing(a, b, OUT_U, OUT_V),
+           differing(a, b, OUT_V, THRESHOWL_OUT_LEN));
+}
+
+static void predict_all(const Picture *p, int16_t col, Answer *answers)
+{
+    const Call c = good_call(p, 0, col);
+    size_t i;
+    for (i = 0; i < FORMS; i++) {
+        const uint32_t number = forms[i].predict(&c, &answers[i]);
+        printf("  %-22s number %u, the lamp is %s\n", forms[i].name, (unsigned)number,
+               lamp_colour(&answers[i]));
+        expect(number == THRESHOWL_DONE, "a good call is done");
+    }
+    print_difference("whole against split:", &answers[WHOLE], &answers[SPLIT]);
+    print_difference("merging against split:", &answers[MERGING], &answers[SPLIT]);
+    expect(memcmp(&answers[MERGING], &answers[SPLIT], sizeof(Answer)) == 0, "merging equals split");
+    expect(strcmp(lamp_colour(&answers[SPLIT]), "red") == 0, "the lamp was sent as red");
+}
+
+static void write_shown(const char *folder, const char *name, const Picture *panel, const Answer *a)
+{
+    Picture shown = *panel;
+    place(&shown, a);
+    write_png(folder, name, &shown);
+}
+
+static void show_lamps(const Picture *panel, const char *folder)
+{
+    Answer inside[FORMS], outside[FORMS];
+    printf("Sixteen equal vectors (row 0, column 16383), the last that merging fetches whole:\n");
+    predict_all(panel, 16383, inside);
+    expect(strcmp(lamp_colour(&inside[WHOLE]), "red") == 0, "inside the range whole agrees");
+    printf("Sixteen equal vectors (row 0, column 16384), the first that it must not:\n");
+    predict_all(panel, 16384, outside);
+    expect(strcmp(lamp_colour(&outside[WHOLE]), "grey") == 0, "outside the range whole reads grey");
+
+    printf("Pictures, the predicted macroblock framed:\n");
+    write_png(folder, "reference.png", panel);
+    write_shown(folder, "inside-merged.png", panel, &inside[MERGING]);
+    write_shown(folder, "outside-whole.png", panel, &outside[WHOLE]);
+    write_shown(folder, "outside-merged.png", panel, &outside[MERGING]);
+}
+
+/* ---- Every number, from a call made to provoke it ---- */
+
+static void too_many_columns(Call *c) { c->mb_cols = 1025; }
+static void narrow_stride(Call *c) { c->y_stride = Y_WIDTH - 1; }
+static void short_plane(Call *c) { c->v_len = UV_LEN - 1; }
+static void row_outside(Call *c) { c->mb_row = MB_ROWS; }
+static void unknown_filter(Call *c) { c->filter = 2; }
+static void short_vectors(Call *c) { c->vectors_len = THRESHOWL_VECTORS_LEN - 1; }
+static void short_out(Call *c) { c->out_len = THRESHOWL_OUT_LEN - 1; }
+
+typedef struct {
+    uint32_t number;
+    const char *words;
+    void (*commit)(Call *);
+} Fault;
+
+static const Fault faults[] = {
+    {THRESHOWL_BAD_SIZE, "1025 macroblock columns", too_many_columns},
+    {THRESHOWL_BAD_STRIDE, "a luma stride of 47 for 48 samples", narrow_stride},
+    {THRESHOWL_SHORT_PLANE, "a V plane one byte short", short_plane},
+    {THRESHOWL_OUTSIDE_PICTURE, "macroblock row 2 of a picture of 2", row_outside},
+    {THRESHOWL_BAD_FILTER, "filter code 2", unknown_filter},
+    {THRESHOWL_BAD_VECTORS, "63 bytes of vectors", short_vectors},
+    {THRESHOWL_BAD_OUT, "an output of 383 bytes", short_out},
+};
+
+enum { FAULTS = sizeof faults / sizeof faults[0] };
+
+/* The number that a refused call gives, having looked that out kept its bytes. */
+static uint32_t refused(const Form *form, const Call *c)
+{
+    Answer before, after;
+    uint32_t number;
+    memset(&before, 0x5A, sizeof before);
+    after = before;
+    number = form->predict(c, &after);
+    expect(memcmp(&before, &after, sizeof before) == 0, "a refused call keeps every byte of out");
+    return number;
+}
+
+/* Commits fault i alone, and then with every later one: the lowest number is
+   the one given. */
+static void provoke(const Form *form, const Picture *p, size_t i)
+{
+    Call c = good_call(p, 0, 0);
+    uint32_t alone, first;
+    faults[i].commit(&c);
+    alone = refused(form, &c);
+    expect(alone == faults[i].number, "a fault gets its number");
+    for (; i < FAULTS; i++)
+        faults[i].commit(&c);
+    first = refused(form, &c);
+    expect(first == alone, "of several faults the lowest number is given");
+    printf(" %8u", (unsigned)alone);
+}
+
+/* Whole prediction takes no list of vectors, so it has no such fault. */
+static void provoke_in_all(const Picture *p, size_t i)
+{
+    size_t f;
+    printf("  %-36s", faults[i].words);
+    for (f = 0; f < FORMS; f++) {
+        if (f == WHOLE && faults[i].number == THRESHOWL_BAD_VECTORS)
+            printf(" %8s", "-");
+        else
+            provoke(&forms[f], p, i);
+    }
+    printf("\n");
+}
+
+static void show_numbers(const Picture *p)
+{
+    const Call c = good_call(p, 0, 0);
+    size_t i;
+    Answer a;
+    printf("Numbers, each refused call leaving its output as it was:\n");
+    printf("  %-36s %8s %8s %8s\n", "", forms[WHOLE].name, forms[SPLIT].name, forms[MERGING].name);
+    printf("  %-36s", "nothing amiss");
+    for (i = 0; i < FORMS; i++) {
+        const uint32_t number = forms[i].predict(&c, &a);
+        expect(number == THRESHOWL_DONE, "a good call is done");
+        printf(" %8u", (unsigned)number);
+    }
+    printf("\n");
+    for (i = 0; i < FAULTS; i++)
+        provoke_in_all(p, i);
+}
+
+int main(int argc, char **argv)
+{
+    static Picture panel;
+    if (argc != 2) {
+        fprintf(stderr, "usage: lamp_panel FOLDER\n");
+        return 2;
+    }
+    paint_panel(&panel);
+    show_lamps(&panel, argv[1]);
+    show_numbers(&panel);
+    printf(failures ? "Something is not as it should be.\n" : "All is as it should be.\n");
+    return failures ? EXIT_FAILURE : EXIT_SUCCESS;
+}

@@ -1,0 +1,161 @@
+/*
+ * threshowl.h: VP8 inter prediction of one macroblock, for C11 and C++17.
+ *
+ * Three functions predict a macroblock from a reference picture: whole (one
+ * vector), split (sixteen vectors) and merging (sixteen vectors, fetched as
+ * one macroblock wherever no picture could show it).  Link libthreshowl.a;
+ * nothing else is needed.
+ *
+ *
+ * The reference picture
+ *
+ * It has mb_cols by mb_rows macroblocks, and three planes of bytes, row after
+ * row: Y of mb_cols * 16 by mb_rows * 16 samples, U and V of mb_cols * 8 by
+ * mb_rows * 8 samples each.  y_stride and uv_stride are the bytes from one row
+ * to the next, at least the plane's width and at most 32768.  y_len, u_len and
+ * v_len are the bytes that each plane has: (height - 1) * stride + width are
+ * needed, and more do no harm.  Bytes between width and stride, and beyond the
+ * last sample, alter nothing.  A sample sought outside the picture is that of
+ * the nearest edge.
+ *
+ * mb_col and mb_row say which macroblock is predicted, counted from 0.
+ *
+ *
+ * Vectors
+ *
+ * A vector is a row and a column, each a signed 16-bit number of quarter luma
+ * pixels; down and right are positive.  Every value is taken.
+ *
+ *   whole            takes mv_row and mv_col.
+ *   split, merging   take 64 bytes: the vectors of the sixteen 4x4 luma blocks
+ *                    in raster order, each as row then column, each number
+ *                    little-endian.
+ *
+ * filter is THRESHOWL_SIXTAP or THRESHOWL_BILINEAR.  full_pixel is 0 for off,
+ * and any other value is on: then every luma and chroma vector is lowered to
+ * whole pixels.
+ *
+ *
+ * The answer
+ *
+ * Each function gives back a number.  With 0 the call is done, and out holds
+ * the prediction: 256 samples of Y (16 by 16), 64 of U (8 by 8), 64 of V (8 by
+ * 8), each row after row without gaps.  With any other number the call is
+ * refused, and not one byte of out is changed.
+ *
+ * The tests are made in the order of their numbers, so the number given is the
+ * lowest that applies.  Sums in them are exact and never wrap.
+ *
+ *
+ * What the caller owes
+ *
+ * - Each pointer points to as many bytes as the length beside it says.  It is
+ *   not NULL, even where that length is 0: any valid pointer serves there.
+ * - out overlaps no plane and not the vectors.  The planes and the vectors are
+ *   only read, and may overlap one another.
+ * - While a call runs, no other thread writes to what it reads, or reads or
+ *   writes its out.
+ *
+ * Beyond that a call may be given every value of every argument, and returns.
+ *
+ * The functions keep no state, allocate nothing and call nothing of the
+ * host's: any number of threads may call them at once.
+ */
+#ifndef THRESHOWL_H
+#define THRESHOWL_H
+
+#include <stddef.h>
+#include <stdint.h>
+
+#ifdef __cplusplus
+extern "C" {
+#endif
+
+/* Filter codes: VP8 version 0 takes six-tap, the versions above it bilinear. */
+#define THRESHOWL_SIXTAP 0
+#define THRESHOWL_BILINEAR 1
+
+/* Lengths that split and merging want of vectors, and all want of out. */
+#define THRESHOWL_VECTORS_LEN 64
+#define THRESHOWL_OUT_LEN 384
+
+/* The numbers that a call gives back. */
+enum {
+    /* Done: none of those below applies, and out holds the prediction. */
+    THRESHOWL_DONE = 0,
+
+    /* mb_cols or mb_rows is not in 1..1024. */
+    THRESHOWL_BAD_SIZE = 1,
+
+    /* y_stride is below mb_cols * 16, uv_stride is below mb_cols * 8, or
+       either is above 32768. */
+    THRESHOWL_BAD_STRIDE = 2,
+
+    /* A plane has fewer than (height - 1) * stride + width bytes: y_len, u_len
+       or v_len is too small. */
+    THRESHOWL_SHORT_PLANE = 3,
+
+    /* mb_col is not below mb_cols, or mb_row is not below mb_rows. */
+    THRESHOWL_OUTSIDE_PICTURE = 4,
+
+    /* filter is neither THRESHOWL_SIXTAP nor THRESHOWL_BILINEAR. */
+    THRESHOWL_BAD_FILTER = 5,
+
+    /* vectors_len is not 64.  Whole prediction never gives this number. */
+    THRESHOWL_BAD_VECTORS = 6,
+
+    /* out_len is not 384. */
+    THRESHOWL_BAD_OUT = 7
+};
+
+/*
+ * One vector for the whole macroblock.  Gives 0, 1, 2, 3, 4, 5 or 7.
+ */
+uint32_t threshowl_predict_whole(
+    const uint8_t *y, size_t y_len,
+    const uint8_t *u, size_t u_len,
+    const uint8_t *v, size_t v_len,
+    size_t y_stride, size_t uv_stride,
+    size_t mb_cols, size_t mb_rows,
+    size_t mb_col, size_t mb_row,
+    int16_t mv_row, int16_t mv_col,
+    uint8_t filter, uint8_t full_pixel,
+    uint8_t *out, size_t out_len);
+
+/*
+ * A vector for each 4x4 luma block; each 4x4 chroma block takes the average of
+ * the vectors of the four luma blocks that it covers.  Gives 0 to 7.
+ */
+uint32_t threshowl_predict_split(
+    const uint8_t *y, size_t y_len,
+    const uint8_t *u, size_t u_len,
+    const uint8_t *v, size_t v_len,
+    size_t y_stride, size_t uv_stride,
+    size_t mb_cols, size_t mb_rows,
+    size_t mb_col, size_t mb_row,
+    const uint8_t *vectors, size_t vectors_len,
+    uint8_t filter, uint8_t full_pixel,
+    uint8_t *out, size_t out_len);
+
+/*
+ * Gives the number and the samples of threshowl_predict_split on every input,
+ * sooner where all sixteen vectors are equal and both components lie in
+ * -16384..16383: there it makes one whole prediction.  Outside that range
+ * whole and split prediction differ in chroma, and it does not merge.
+ */
+uint32_t threshowl_predict_merging(
+    const uint8_t *y, size_t y_len,
+    const uint8_t *u, size_t u_len,
+    const uint8_t *v, size_t v_len,
+    size_t y_stride, size_t uv_stride,
+    size_t mb_cols, size_t mb_rows,
+    size_t mb_col, size_t mb_row,
+    const uint8_t *vectors, size_t vectors_len,
+    uint8_t filter, uint8_t full_pixel,
+    uint8_t *out, size_t out_len);
+
+#ifdef __cplusplus
+}
+#endif
+
+#endif
