@@ -6,7 +6,7 @@
 #   make demo-check         the same, and compare what it prints; also as C++17
 #   make check              the gate
 #   make oracle RUST=SRC    compare with the original Rust in folder SRC
-#   make bench RUST=SRC     time both in one run
+#   make bench RUST=SRC     time both in one run; bench/count counts instructions
 #   make install PREFIX=DIR header, library and pkg-config file
 #   make install-check      install into target/ and build the host from there
 #   make clean              remove target/, what is proved included

@@ -5,6 +5,10 @@
 // caller's stack, warm and never cleared; each goes through the same list of
 // calls; in every round both are timed, and which comes first alternates. The
 // least time of all rounds counts.
+//
+// With three words, the number of a case, `product` or `Rust`, and a number of
+// turns, it only makes that side's calls so often: bench/count has an emulator
+// count their instructions.
 
 mod stack;
 
@@ -114,29 +118,33 @@ fn agree(form: Form, call: &Call) -> bool {
     number == 0 && out == in_order(&original(form, call))
 }
 
-/// Nanoseconds of one call, when each of the list is made `TURNS` times.
-fn per_call(calls: &[Call], mut run: impl FnMut(&Call)) -> f64 {
-    let start = Instant::now();
-    for _ in 0..TURNS {
+fn in_turn(turns: usize, calls: &[Call], mut run: impl FnMut(&Call)) {
+    for _ in 0..turns {
         for call in calls {
             run(black_box(call));
         }
     }
-    start.elapsed().as_secs_f64() * 1e9 / (TURNS * PLACES) as f64
 }
 
-fn time_product(form: Form, calls: &[Call]) -> f64 {
+fn call_product(turns: usize, form: Form, calls: &[Call]) {
     let mut out = [0u8; SAMPLES];
-    per_call(calls, |call| {
+    in_turn(turns, calls, |call| {
         black_box(unsafe { product(form, call, out.as_mut_ptr()) });
         black_box(&out);
     })
 }
 
-fn time_original(form: Form, calls: &[Call]) -> f64 {
-    per_call(calls, |call| {
+fn call_original(turns: usize, form: Form, calls: &[Call]) {
+    in_turn(turns, calls, |call| {
         black_box(&original(form, call));
     })
+}
+
+/// Nanoseconds of one call, when each of the list is made `TURNS` times.
+fn time(form: Form, calls: &[Call], side: fn(usize, Form, &[Call])) -> f64 {
+    let start = Instant::now();
+    side(TURNS, form, calls);
+    start.elapsed().as_secs_f64() * 1e9 / (TURNS * PLACES) as f64
 }
 
 /// The least times of both sides so far.
@@ -155,9 +163,9 @@ impl Best {
     fn take_round(&mut self, round: usize, form: Form, calls: &[Call]) {
         for side in [round % 2, (round + 1) % 2] {
             if side == 0 {
-                self.product = self.product.min(time_product(form, calls));
+                self.product = self.product.min(time(form, calls, call_product));
             } else {
-                self.original = self.original.min(time_original(form, calls));
+                self.original = self.original.min(time(form, calls, call_original));
             }
         }
     }
@@ -273,6 +281,22 @@ fn print_stack(cases: &[Case], picture: &Picture) {
     }
 }
 
+/// One side's calls of one case, and nothing else.
+fn only_calls(words: &[String], cases: &[Case], calls: &[[Call; PLACES]]) -> Option<()> {
+    let [case, side, turns] = words else {
+        return None;
+    };
+    let case: usize = case.parse().ok()?;
+    let turns = turns.parse().ok()?;
+    let side = match side.as_str() {
+        "product" => call_product,
+        "Rust" => call_original,
+        _ => return None,
+    };
+    side(turns, cases.get(case)?.form, calls.get(case)?);
+    Some(())
+}
+
 fn main() -> ExitCode {
     let cases = cases();
     let picture = Picture::new(
@@ -282,6 +306,13 @@ fn main() -> ExitCode {
         &mut Random::new(4),
     );
     let calls = cases.each_ref().map(|case| case.calls(&picture));
+    let words: Vec<String> = std::env::args().skip(1).collect();
+    if !words.is_empty() {
+        return match only_calls(&words, &cases, &calls) {
+            Some(()) => ExitCode::SUCCESS,
+            None => ExitCode::from(2),
+        };
+    }
     for (case, calls) in cases.iter().zip(&calls) {
         if !calls.iter().all(|call| agree(case.form, call)) {
             println!("{}: the two sides differ", case.title);

@@ -83,7 +83,9 @@ fn both4(halo: &[u8; 81], mx: usize, my: usize) -> [u8; 16]
     let mut steps = [0u8; 76];
     let mut columns = [0u8; 36];
     let mut out = [0u8; 16];
-    both(halo, 4, mx, my, &mut steps, &mut columns, &mut out);
+    let tx = taps_of(FilterSet::Sixtap, mx);
+    let ty = taps_of(FilterSet::Sixtap, my);
+    both(halo, 4, tx, ty, &mut steps, &mut columns, &mut out);
     out
 }
 
@@ -185,7 +187,9 @@ fn both8(halo: &[u8; 169], mx: usize, my: usize) -> [u8; 64]
     let mut steps = [0u8; 164];
     let mut columns = [0u8; 104];
     let mut out = [0u8; 64];
-    both(halo, 8, mx, my, &mut steps, &mut columns, &mut out);
+    let tx = taps_of(FilterSet::Sixtap, mx);
+    let ty = taps_of(FilterSet::Sixtap, my);
+    both(halo, 8, tx, ty, &mut steps, &mut columns, &mut out);
     out
 }
 
@@ -287,7 +291,9 @@ fn both16(halo: &[u8; 441], mx: usize, my: usize) -> [u8; 256]
     let mut steps = [0u8; 436];
     let mut columns = [0u8; 336];
     let mut out = [0u8; 256];
-    both(halo, 16, mx, my, &mut steps, &mut columns, &mut out);
+    let tx = taps_of(FilterSet::Sixtap, mx);
+    let ty = taps_of(FilterSet::Sixtap, my);
+    both(halo, 16, tx, ty, &mut steps, &mut columns, &mut out);
     out
 }
 

@@ -44,3 +44,6 @@ pub use predict::predict_inter_mb_whole_pixel;
 pub use predict::predict_merging;
 pub use predict::predict_split_mv;
 pub use predict::predict_split_mv_by_version;
+
+// and how two numbers become one
+pub use refusal::or_else;

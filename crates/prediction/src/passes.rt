@@ -2,13 +2,16 @@
 // on. A horizontal pass runs over the halo's rows in one line, past the ends of the rows too, and the rows of the block are then packed: so
 // a line is long enough to run as vector code. `steps`, `columns` and `mixes` are room for what a pass leaves; all of each is written.
 ghost use mathlib.Core.Path.{_≡_};
-ghost use Prim.Native.Nat.{_+_, _-_, _*_, _<_};
+ghost use Prim.Native.Nat.{ℕ, _+_, _-_, _*_, _<_};
 ghost use lib.ListN.{length};
+ghost use Rattle.rfc6386.specs.Filter.{tapsOf};
 ghost use Rattle.rfc6386.specs.Picture.{haloBlock};
 ghost use Rattle.prediction.specs.Passes.{Halo};
+ghost use Rattle.prediction.specs.Taps.{signedTaps, Small};
 use crate::rect::copy_rect;
 use crate::step::line;
 use crate::step::mix_line;
+use crate::taps::Taps;
 use crate::taps::taps_of;
 use rfc6386::FilterSet;
 
@@ -44,25 +47,24 @@ pub fn down(halo: &[u8], w: usize, my: usize, columns: &mut [u8], out: &mut [u8]
     line(columns, 0, w, out, w * w, t);
 }
 
-// The horizontal pass, and the vertical pass over its bytes.
+// The horizontal pass, and the vertical pass over its bytes. Its rows of the table are found by the caller: with two rows to find, the
+// compiler would keep this a call at a width known only when running, and the lines would not become vector code.
 pub fn both(
     halo: &[u8],
     w: usize,
-    mx: usize,
-    my: usize,
+    tx: Taps,
+    ty: Taps,
     steps: &mut [u8],
     columns: &mut [u8],
     out: &mut [u8],
 )
     requires { ⌜ Halo w (length (now halo)) (length (now out)) ⌝ }
-    requires { ⌜ mx < 8 ⌝ }
-    requires { ⌜ my < 8 ⌝ }
+    requires { ⌜ Small tx ⌝ }
+    requires { ⌜ Small ty ⌝ }
     requires { ⌜ length (now steps) ≡ (w + 5) * (w + 5) - 5 ⌝ }
     requires { ⌜ length (now columns) ≡ (w + 5) * w ⌝ }
-    ensures { λ _. ⌜ now (out .exit) ≡ haloBlock w FilterSet.Sixtap (now (halo .entry)) mx my ⌝ }
+    ensures { λ _. ⌜ ((mx my : ℕ) → signedTaps tx ≡ tapsOf FilterSet.Sixtap mx → signedTaps ty ≡ tapsOf FilterSet.Sixtap my → now (out .exit) ≡ haloBlock w FilterSet.Sixtap (now (halo .entry)) mx my) ⌝ }
 {
-    let tx = taps_of(FilterSet::Sixtap, mx);
-    let ty = taps_of(FilterSet::Sixtap, my);
     line(halo, 0, 1, steps, (w + 5) * (w + 5) - 5, tx);
     copy_rect(columns, w, 0, 0, w, w + 5, steps, 0, w + 5);
     line(columns, 0, w, out, w * w, ty);

@@ -18,6 +18,7 @@ use Rattle.signed.specs.Int.{int, diff}
 use Rattle.signed.specs.Held.{Held, nat-at, lit-neg, sub, sub-need}
 use Rattle.rfc6386.specs.Number.{wrap16}
 use Rattle.rfc6386.specs.Refusal.{orElse}
+use Rattle.rfc6386.specs.Promises.{one-result}
 use Rattle.rfc6386.specs.Macroblock.{answered, noSamples}
 use Rattle.rfc6386.specs.Laws.Vectors.{wrap-in, wrap-high}
 use Rattle.rfc6386.specs.Laws.Refusals.{done, refused}
@@ -28,10 +29,6 @@ use Rattle.rfc6386.specs.declared.Prediction.{Prediction}
 pub set-other : (n : ℕ) → (n ≡ 0 → ⊥) → Bilinear ≡ setOf n
 set-other zero h = absurd (h refl)
 set-other (suc n) h = refl
-
-pub first-stays : (n m : ℕ) → (n ≡ 0 → ⊥) → n ≡ orElse n m
-first-stays zero m h = absurd (h refl)
-first-stays (suc n) m h = refl
 
 -- ---- sixteen bits, read as signed
 pub read-low : (n : ℕ) → n < 32768 → toZ w16 n ≡ wrap16 (pos n)
@@ -129,9 +126,6 @@ module _ (p : Prediction) (number n : ℕ) (e : n ≡ orElse (p .number) number)
   unfolding refusedBy answered
   refused-too h = λ i. record { number = e i; samples = sym (refused (p .samples) noSamples (λ z. h (e ∙ z))) i }
 
--- ---- THEOREM. No two outcomes satisfy one contract: an equation, and a call's number with the bytes that it leaves.
-pub one-answer : {A : Type 0} {a b c : A} → a ≡ c → b ≡ c → a ≡ b
-one-answer p q = p ∙ sym q
-
+-- ---- THEOREM. No two outcomes meet the contract of a C function: its number, and the bytes that it leaves.
 pub one-outcome : {p : Prediction} {codes : ℕ} {out : List ℕ} {r s : ℕ} {a b : List ℕ} → Left p codes out r a → Left p codes out s b → (r ≡ s) × (a ≡ b)
-one-outcome h k = (one-answer (h .number-is) (k .number-is), one-answer (h .bytes-are) (k .bytes-are))
+one-outcome h k = (one-result (h .number-is) (k .number-is), one-result (h .bytes-are) (k .bytes-are))

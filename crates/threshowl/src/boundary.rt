@@ -7,9 +7,9 @@ ghost use Rattle.threshowl.specs.Boundary.{setOf, flagOf, codeRefusal, c
 use crate::output::write_samples;
 use crate::refusals::code_refusal;
 use crate::refusals::count_refusal;
-use crate::refusals::or_else;
 use crate::refusals::room_refusal;
 use crate::vectors::mvs_of_bytes;
+use prediction::or_else;
 use prediction::predict_inter_mb;
 use prediction::predict_merging;
 use prediction::predict_split_mv;

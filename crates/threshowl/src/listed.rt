@@ -4,7 +4,7 @@ ghost use Rattle.rfc6386.specs.Vector.{fullPixel};
 ghost use Rattle.rfc6386.specs.Macroblock.{lent, split};
 ghost use Rattle.threshowl.specs.Boundary.{refusedBy};
 use crate::lists::MvList;
-use crate::refusals::or_else;
+use prediction::or_else;
 use prediction::predict_merging;
 use prediction::predict_split_mv;
 use rfc6386::FilterSet;

@@ -1,6 +1,5 @@
-// Numbers 5, 6 and 7, and the lowest of two numbers that apply.
+// Numbers 5, 6 and 7.
 ghost use mathlib.Core.Path.{_≡_};
-ghost use Rattle.rfc6386.specs.Refusal.{orElse};
 ghost use Rattle.threshowl.specs.Boundary.{codeRefusal, countRefusal, roomRefusal};
 
 pub fn code_refusal(filter: u8) -> u32
@@ -28,13 +27,4 @@ pub fn room_refusal(room: usize) -> u32
         return 0;
     }
     7
-}
-
-pub fn or_else(first: u32, next: u32) -> u32
-    ensures { λ r. ⌜ r ≡ orElse first next ⌝ }
-{
-    if first == 0 {
-        return next;
-    }
-    first
 }
