@@ -1,0 +1,9 @@
+// For tests only, and no part of the product: the functions on vectors, halos and one plane, and the prediction at whole pixels, behind C
+// functions on numbers and bytes, which tests/oracle compares with the Rust and rust_answers replays. A call writes what the function
+// returned, zeros where that refuses, and gives its number. It gives 255 and writes nothing where a length is not the one due or a code
+// names no function.
+pub mod bytes;
+pub mod codes;
+pub mod filters;
+pub mod planes;
+pub mod vectors;
