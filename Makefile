@@ -11,8 +11,8 @@
 #   make install-check      install into target/ and build the host from there
 #   make clean              remove target/, what is proved included
 #
-# ARCHIVE=FILE takes another static library than the one that rt builds;
-# SHIMS=FILE adds the functions on one plane to the comparison.
+# ARCHIVE=FILE takes another static library than the one that rt builds; SHIMS=
+# leaves the functions on one plane out of the comparison.
 #
 # The library is for x86-64. On another processor the host is cross-compiled and
 # run by an emulator, which tools/x86-64-tools installs; oracle and bench also
@@ -22,6 +22,7 @@ VERSION = 0.1.0
 PREFIX = /usr/local
 DESTDIR =
 ARCHIVE = target/staticlib/libthreshowl.a
+SHIMS = target/staticlib/libshims.a
 PKG_CONFIG = pkg-config
 INSTALL = install
 
@@ -58,7 +59,7 @@ demo-check: target/demo/lamp_panel target/demo/lamp_panel_cxx
 check:
 	bash .ci/run
 
-oracle: rust-named $(ARCHIVE)
+oracle: rust-named $(ARCHIVE) $(SHIMS)
 	tests/oracle/run "$(RUST)" "$(ARCHIVE)" $(SHIMS)
 
 bench: rust-named $(ARCHIVE)
@@ -96,8 +97,8 @@ tools:
 	tools/x86-64-tools
 
 # rt knows itself what has changed.
-target/staticlib/libthreshowl.a: FORCE
-	rt staticlib threshowl
+target/staticlib/lib%.a: FORCE
+	rt staticlib $*
 
 rust-named:
 	@[ -n "$(RUST)" ] || { echo "say which Rust: make ... RUST=FOLDER-OF-motion_comp.rs" >&2; exit 2; }

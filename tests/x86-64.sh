@@ -2,7 +2,8 @@
 # is for x86-64 alone. On another processor they cross-compile and emulate; the
 # answers are the same, and times say nothing.
 #
-# Takes from the environment: RUSTC, EMULATOR.
+# Takes from the environment: RUSTC, EMULATOR; NATIVE, not empty where no archive
+# is linked and the processor at hand will do.
 # Sets: RUSTC; for_x86_64, words for it; emulator, words to run a program with.
 # Words are to be split where they are used.
 
@@ -21,7 +22,7 @@ EOT
 RUSTC=${RUSTC:-rustc}
 for_x86_64=
 emulator=
-if [ "$(uname -m)" != x86_64 ]; then
+if [ -z "${NATIVE:-}" ] && [ "$(uname -m)" != x86_64 ]; then
     for_x86_64="--target x86_64-unknown-linux-gnu -C linker=x86_64-linux-gnu-gcc"
     [ -d "$("$RUSTC" $for_x86_64 --print target-libdir)" ] || lacking
     libc=$(x86_64-linux-gnu-gcc -print-file-name=libc.so.6) || lacking
