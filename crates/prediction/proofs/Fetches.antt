@@ -1,4 +1,4 @@
--- Calls on one plane: where a square starts, and what is answered. Assumes nothing.
+-- Calls on one plane: where a square starts, and what is known of it. Assumes nothing.
 use mathlib.Core.Path.{_≡_, ap, _∙_}
 use Prim.Native.Nat.{ℕ, _^_, _<_, _≤_}
 use native.Mathlib.Omega.{arith}

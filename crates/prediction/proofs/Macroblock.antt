@@ -2,9 +2,11 @@
 use mathlib.Core.Path.{_≡_, refl, sym, ap, ap₂, _∙_, subst}
 use mathlib.Core.Bool.{Bool}
 use mathlib.Core.List.{List, map}
-use Prim.Native.Nat.{ℕ, _*_, _<_, _≤_}
+use Prim.Native.Nat.{ℕ, _+_, _*_, _<_, _≤_}
+use native.Mathlib.Nat.{mul-le-mul}
 use native.Mathlib.Omega.{arith}
 use Rattle.rfc6386.specs.Vector.{fullPixel, each, lowered, sent, quarterAverages, quarterVector}
+use Rattle.rfc6386.specs.Picture.{Plane}
 use Rattle.rfc6386.specs.Refusal.{planeRefusal}
 use Rattle.rfc6386.specs.Block.{planeOf}
 use Rattle.rfc6386.specs.Macroblock.{Reference, lent, refusal}
@@ -31,32 +33,42 @@ module _ (y u v : List ℕ) (s : Sizes) (col row : ℕ) (A : Accepts (lent y u v
     (omega arith, omega arith, h),
   )
 
-  -- every call at the place of a macroblock is accepted
+-- what holds at a macroblock's place holds at p, which is that place
+module _ (s : Sizes) (col row n : ℕ) {p : Place} (e : p ≡ at s col row n) (bytes : List ℕ) (stride : ℕ) where
+  refusal-at : planeRefusal (planeOf bytes stride (s .«mb_cols» * n) (s .«mb_rows» * n)) (col * n) (row * n) ≡ 0
+      → planeRefusal (planeOf bytes stride (p .w) (p .h)) (p .x) (p .y) ≡ 0
+  refusal-at = subst (λ (q : Place). planeRefusal (planeOf bytes stride (q .w) (q .h)) (q .x) (q .y) ≡ 0) (sym e)
+
+  starts-at : Starts (planeOf bytes stride (s .«mb_cols» * n) (s .«mb_rows» * n)) (col * n) (row * n) n → Starts (planeOf bytes stride (p .w) (p .h)) (p .x) (p .y) n
+  starts-at = subst (λ (q : Place). Starts (planeOf bytes stride (q .w) (q .h)) (q .x) (q .y) n) (sym e)
+
+-- so every call at the place of a macroblock is accepted
+module _ (y u v : List ℕ) (s : Sizes) (col row : ℕ) (A : Accepts (lent y u v s) col row) where
+  place-starts : (n : ℕ) (q : Plane) → n ≤ 16 → ((a b : ℕ) → a < n → b < n → planeRefusal q (col * n + a) (row * n + b) ≡ 0) → Starts q (col * n) (row * n) n
+  place-starts n q h accepted =
+      let c : col ≤ 1024 = omega arith in
+      let r : row ≤ 1024 = omega arith in
+      record { accepted = accepted; x-small = omega (arith, mul-le-mul c h); y-small = omega (arith, mul-le-mul r h) }
+
   module _ {p : Place} (e : p ≡ at s col row 16) where
     pub luma-at : planeRefusal (planeOf y (s .«y_stride») (p .w) (p .h)) (p .x) (p .y) ≡ 0
-    luma-at = subst (λ (q : Place). planeRefusal (planeOf y (s .«y_stride») (q .w) (q .h)) (q .x) (q .y) ≡ 0) (sym e) (luma-start (lent y u v s) col row A)
+    luma-at = refusal-at s col row 16 e y (s .«y_stride») (luma-start (lent y u v s) col row A)
 
     pub luma-starts : Starts (planeOf y (s .«y_stride») (p .w) (p .h)) (p .x) (p .y) 16
-    luma-starts =
-        subst (λ (q : Place). Starts (planeOf y (s .«y_stride») (q .w) (q .h)) (q .x) (q .y) 16) (sym e)
-        (record { accepted = luma-accepted (lent y u v s) col row A; x-small = omega (arith, A .col-inside, A .cols-most); y-small = omega (arith, A .row-inside, A .rows-most) })
+    luma-starts = starts-at s col row 16 e y (s .«y_stride») (place-starts 16 _ (omega arith) (luma-accepted (lent y u v s) col row A))
 
   module _ {p : Place} (e : p ≡ at s col row 8) where
     pub u-at : planeRefusal (planeOf u (s .«uv_stride») (p .w) (p .h)) (p .x) (p .y) ≡ 0
-    u-at = subst (λ (q : Place). planeRefusal (planeOf u (s .«uv_stride») (q .w) (q .h)) (q .x) (q .y) ≡ 0) (sym e) (u-start (lent y u v s) col row A)
+    u-at = refusal-at s col row 8 e u (s .«uv_stride») (u-start (lent y u v s) col row A)
 
     pub v-at : planeRefusal (planeOf v (s .«uv_stride») (p .w) (p .h)) (p .x) (p .y) ≡ 0
-    v-at = subst (λ (q : Place). planeRefusal (planeOf v (s .«uv_stride») (q .w) (q .h)) (q .x) (q .y) ≡ 0) (sym e) (v-start (lent y u v s) col row A)
+    v-at = refusal-at s col row 8 e v (s .«uv_stride») (v-start (lent y u v s) col row A)
 
     pub u-starts : Starts (planeOf u (s .«uv_stride») (p .w) (p .h)) (p .x) (p .y) 8
-    u-starts =
-        subst (λ (q : Place). Starts (planeOf u (s .«uv_stride») (q .w) (q .h)) (q .x) (q .y) 8) (sym e)
-        (record { accepted = u-accepted (lent y u v s) col row A; x-small = omega (arith, A .col-inside, A .cols-most); y-small = omega (arith, A .row-inside, A .rows-most) })
+    u-starts = starts-at s col row 8 e u (s .«uv_stride») (place-starts 8 _ (omega arith) (u-accepted (lent y u v s) col row A))
 
     pub v-starts : Starts (planeOf v (s .«uv_stride») (p .w) (p .h)) (p .x) (p .y) 8
-    v-starts =
-        subst (λ (q : Place). Starts (planeOf v (s .«uv_stride») (q .w) (q .h)) (q .x) (q .y) 8) (sym e)
-        (record { accepted = v-accepted (lent y u v s) col row A; x-small = omega (arith, A .col-inside, A .cols-most); y-small = omega (arith, A .row-inside, A .rows-most) })
+    v-starts = starts-at s col row 8 e v (s .«uv_stride») (place-starts 8 _ (omega arith) (v-accepted (lent y u v s) col row A))
 
 -- three planes' samples
 pub three : {a a′ b b′ c c′ : List ℕ} → a ≡ a′ → b ≡ b′ → c ≡ c′ → _≡_ {A = ReconstructedMb} (record { y = a; u = b; v = c }) (record { y = a′; u = b′; v = c′ })

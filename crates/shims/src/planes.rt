@@ -12,6 +12,7 @@ use prediction::fetch_luma_mb_halo;
 use prediction::fetch_luma_mb_whole_pixel;
 use prediction::filter_block_4x4;
 use prediction::filter_block_4x4_into;
+use prediction::or_else;
 use prediction::plane_refusal;
 use prediction::predict_inter_mb_whole_pixel;
 use rfc6386::Mv;
@@ -68,11 +69,7 @@ pub extern "C" fn shim_fetch(
 
 // The number of a call whose code names no filter: the plane is looked at before the code, and a destination after it.
 fn without_code(plane: &[u8], stride: usize, w: usize, h: usize, x: usize, y: usize) -> u32 {
-    let number = plane_refusal(plane, stride, w, h, x, y);
-    if number == 0 {
-        return 5;
-    }
-    number
+    or_else(plane_refusal(plane, stride, w, h, x, y), 5)
 }
 
 #[no_mangle]
