@@ -6,7 +6,8 @@
 #   make demo-check         the same, and compare what it prints; also as C++17
 #   make check              the gate
 #   make oracle RUST=SRC    compare with the original Rust in folder SRC
-#   make bench RUST=SRC     time both in one run; bench/count counts instructions
+#   make bench RUST=SRC     time both in one run on this processor; bench/count
+#                           counts x86-64 instructions
 #   make install PREFIX=DIR header, library and pkg-config file
 #   make install-check      install into target/ and build the host from there
 #   make clean              remove target/, what is proved included
@@ -15,8 +16,9 @@
 # leaves the functions on one plane out of the comparison.
 #
 # The library is for x86-64. On another processor the host is cross-compiled and
-# run by an emulator, which tools/x86-64-tools installs; oracle and bench also
-# want RUSTC=..., see tests/x86-64.sh.
+# run by an emulator, which tools/x86-64-tools installs; the oracle also wants
+# RUSTC=..., see tests/x86-64.sh; the benchmark times a library made for that
+# processor, see bench/native-archive.
 
 VERSION = 0.1.0
 PREFIX = /usr/local
@@ -25,8 +27,10 @@ ARCHIVE = target/staticlib/libthreshowl.a
 SHIMS = target/staticlib/libshims.a
 PKG_CONFIG = pkg-config
 INSTALL = install
+BENCHED = $(ARCHIVE) $(SHIMS)
 
 ifneq ($(shell uname -m),x86_64)
+BENCHED =
 ifeq ($(origin CC),default)
 CC = x86_64-linux-gnu-gcc
 endif
@@ -62,8 +66,8 @@ check:
 oracle: rust-named $(ARCHIVE) $(SHIMS)
 	tests/oracle/run "$(RUST)" "$(ARCHIVE)" $(SHIMS)
 
-bench: rust-named $(ARCHIVE)
-	bench/run "$(RUST)" "$(ARCHIVE)"
+bench: rust-named $(BENCHED)
+	bench/run "$(RUST)" $(BENCHED)
 
 install: $(ARCHIVE)
 	$(INSTALL) -d "$(DESTDIR)$(PREFIX)/include" "$(DESTDIR)$(PREFIX)/lib/pkgconfig"

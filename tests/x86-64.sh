@@ -2,8 +2,8 @@
 # is for x86-64 alone. On another processor they cross-compile and emulate; the
 # answers are the same, and times say nothing.
 #
-# Takes from the environment: RUSTC, EMULATOR; NATIVE, not empty where no archive
-# is linked and the processor at hand will do.
+# Takes from the environment: RUSTC, EMULATOR; NATIVE, not empty where the
+# processor at hand will do: no archive is linked, or one made for it.
 # Sets: RUSTC; for_x86_64, words for it; emulator, words to run a program with.
 # Words are to be split where they are used.
 

@@ -11,7 +11,7 @@ use borrow.Author.Tests.{ltb-true, ltb-false, leb-true, leb-false}
 use lib.Dec.{leb, ltb}
 use lib.ListN.{length, getD, set, length-set}
 use lib.Seq.{getD-set-same, getD-set-other}
-use Rattle.rfc6386.specs.Raster.{within, written}
+use Rattle.rfc6386.specs.Raster.{tab, within, written}
 use Rattle.rfc6386.specs.Laws.Raster.{is-tab, length-tab, getD-tab, within-true, row-fits}
 use Rattle.prediction.specs.Rows.{laid}
 
@@ -81,6 +81,12 @@ getD-laid d to n f i h = getD-tab _ _ i 0 h
 length-laid : (d : List ℕ) (to n : ℕ) (f : ℕ → ℕ) → length (laid d to n f) ≡ length d
 unfolding laid
 length-laid d to n f = length-tab _ _
+
+-- a row over all of a list
+pub laid-over : (d : List ℕ) (n : ℕ) (f : ℕ → ℕ) → length d ≡ n → laid d 0 n f ≡ tab n f
+laid-over d n f e =
+    is-tab 0 n f (laid d 0 n f) (length-laid d 0 n f ∙ e)
+    (λ i h. getD-laid d 0 n f i (omega arith) ∙ ap (λ (b : Bool). cond b (f (i - 0)) (getD d i 0)) (within-true 0 n i (omega arith) (omega arith)) ∙ ap f (omega arith))
 
 -- ---- rows
 -- d is d₀ with r of the rows written

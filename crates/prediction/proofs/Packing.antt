@@ -32,24 +32,23 @@ module _ {w h b : ℕ} (H : Halo w h b) where
   pub core-asks : Room b w 0 0 w w × Held h (2 * (w + 5) + 2) (w + 5) w w
   core-asks = (filled w b (H .block-is), λ r l. omega (arith, row-fits (r + 2) (w + 5) (w + 5) (omega arith), add-mul r 2 (w + 5), H .halo-is))
 
-  pub along-asks : {s : ℕ} → s ≡ w * (w + 5) - 5 → Room b w 0 0 w w × Held s 0 (w + 5) w w
-  along-asks e = (filled w b (H .block-is), λ r l. omega (arith, row-fits r w (w + 5) l))
+  pub along-asks : {s : ℕ} → w * (w + 5) ≤ s + 5 → Room b w 0 0 w w × Held s 0 (w + 5) w w
+  along-asks h = (filled w b (H .block-is), λ r l. omega (arith, row-fits r w (w + 5) l))
 
   pub down-asks : {z : ℕ} → z ≡ (w + 5) * w → Room z w 0 0 w (w + 5) × Held h 2 (w + 5) w (w + 5)
   down-asks {z} e = (filled (w + 5) z e, λ r l. omega (arith, row-fits r (w + 5) (w + 5) l, H .halo-is))
 
-  pub both-asks : {s z : ℕ} → s ≡ (w + 5) * (w + 5) - 5 → z ≡ (w + 5) * w → Room z w 0 0 w (w + 5) × Held s 0 (w + 5) w (w + 5)
-  both-asks {z = z} d e = (filled (w + 5) z e, λ r l. omega (arith, row-fits r (w + 5) (w + 5) l))
+  pub mixed-asks : {s z : ℕ} → s ≡ w * (w + 5) + w → z ≡ (w + 1) * w → Room z w 0 0 w (w + 1) × Held s 0 (w + 5) w (w + 1)
+  mixed-asks {z = z} d e = (filled (w + 1) z e, λ r l. omega (arith, row-fits r (w + 1) (w + 5) l, add-mul w 1 (w + 5)))
 
 -- rows out of a line of steps, the rest of each left out
-packed : (w rows : ℕ) (f : ℕ → ℕ) (z o₀ o : List ℕ) → z ≡ tab (rows * (w + 5) - 5) f → length o₀ ≡ rows * w → Packed w rows 0 (w + 5) z o₀ o
+packed : (w rows n : ℕ) (f : ℕ → ℕ) (z o₀ o : List ℕ) → rows * (w + 5) ≤ n + 5 → z ≡ tab n f → length o₀ ≡ rows * w → Packed w rows 0 (w + 5) z o₀ o
     → o ≡ raster rows w (λ r c. f (r * (w + 5) + c))
-packed w rows f z o₀ o e h p =
+packed w rows n f z o₀ o k e h p =
     p ∙ written-all o₀ w rows _ h
     ∙ raster-ext rows w _ _
     (λ r c hr hc.
-    ap₂ (λ (l : List ℕ) (i : ℕ). getD l i 0) e (omega arith)
-    ∙ getD-tab (rows * (w + 5) - 5) f (r * (w + 5) + c) 0 (omega (arith, row-fits r rows (w + 5) hr)))
+    ap₂ (λ (l : List ℕ) (i : ℕ). getD l i 0) e (omega arith) ∙ getD-tab n f (r * (w + 5) + c) 0 (omega (arith, row-fits r rows (w + 5) hr)))
 
 -- steps over six rows above each other: g r c at row r, column c
 abbrev over : List ℤ → (ℕ → ℕ → ℕ) → ℕ → ℕ → ℕ
@@ -141,11 +140,10 @@ module _ (w : ℕ) (set : FilterSet) (l : List ℕ) where
       (λ r c hr hc. whole bytes (r + 2) c _ (omega (arith, add-mul r 2 (w + 5))) ∙ sym (step-zero set _ _ _ _ _ _ (step-le _ _)))
       ∙ joined _ _ 0 0 refl refl
 
-  pub along-is : (ts : List ℤ) (mx : ℕ) → ts ≡ tapsOf set mx → (z o₀ o : List ℕ)
-      → z ≡ tab (w * (w + 5) - 5) (λ i. stepAt ts l (2 * (w + 5) + i) 1) → length o₀ ≡ w * w → Packed w w 0 (w + 5) z o₀ o
-      → o ≡ haloBlock w set l mx 0
-  along-is ts mx e z o₀ o q h p =
-      packed w w _ z o₀ o q h p
+  pub along-is : (ts : List ℤ) (mx : ℕ) → ts ≡ tapsOf set mx → (n : ℕ) (z o₀ o : List ℕ) → w * (w + 5) ≤ n + 5
+      → z ≡ tab n (λ i. stepAt ts l (2 * (w + 5) + i) 1) → length o₀ ≡ w * w → Packed w w 0 (w + 5) z o₀ o → o ≡ haloBlock w set l mx 0
+  along-is ts mx e n z o₀ o k q h p =
+      packed w w n _ z o₀ o k q h p
       ∙ raster-ext w w _ (over (tapsOf set 0) (rowStep w ts l))
       (λ r c hr hc. ap (λ (i : ℕ). stepAt ts l i 1) (omega (arith, add-mul r 2 (w + 5))) ∙ sym (step-zero set _ _ (rowStep w ts l (r + 2) c) _ _ _ (step-le _ _)))
       ∙ joined ts _ mx 0 e refl
@@ -159,38 +157,37 @@ module _ (w : ℕ) (set : FilterSet) (l : List ℕ) where
       q
       ∙ joined _ ts 0 my refl e
 
-  pub both-is : (tx ty : List ℤ) (mx my : ℕ) → tx ≡ tapsOf set mx → ty ≡ tapsOf set my → (s z₀ z o : List ℕ)
-      → s ≡ tab ((w + 5) * (w + 5) - 5) (λ i. stepAt tx l (0 + i) 1) → length z₀ ≡ (w + 5) * w → Packed w (w + 5) 0 (w + 5) s z₀ z
-      → o ≡ tab (w * w) (λ i. stepAt ty z (0 + i) w) → o ≡ haloBlock w set l mx my
-  both-is tx ty mx my ex ey s z₀ z o e h p q =
-      stacked w ty (rowStep w tx l) z o
-      (packed w (w + 5) _ s z₀ z e h p ∙ raster-ext (w + 5) w _ _ (λ r c hr hc. ap (λ (i : ℕ). stepAt tx l i 1) (omega arith)))
-      q
-      ∙ joined tx ty mx my ex ey
+  pub both-is : (tx ty : List ℤ) (mx my : ℕ) → tx ≡ tapsOf set mx → ty ≡ tapsOf set my → (z o : List ℕ)
+      → z ≡ raster (w + 5) w (rowStep w tx l) → o ≡ tab (w * w) (λ i. stepAt ty z (0 + i) w) → o ≡ haloBlock w set l mx my
+  both-is tx ty mx my ex ey z o e q = stacked w ty (rowStep w tx l) z o e q ∙ joined tx ty mx my ex ey
 
 pub mix-is : (w : ℕ) (l : List ℕ) → ((i : ℕ) → getD l i 0 < 256) → (tx ty : Taps) (mx my : ℕ) → mx < 8 → my < 8
-    → signedTaps tx ≡ tapsOf Bilinear mx → signedTaps ty ≡ tapsOf Bilinear my → (s m o₀ o : List ℕ)
+    → signedTaps tx ≡ tapsOf Bilinear mx → signedTaps ty ≡ tapsOf Bilinear my → (s z₀ z o : List ℕ)
     → s ≡ tab (w * (w + 5) + w) (λ i. twoTaps tx (getD l (2 * (w + 5) + 2 + i) 0) (getD l (2 * (w + 5) + 2 + i + 1) 0))
-    → m ≡ tab (w * (w + 5) - 5) (λ i. twoTaps ty (getD s (0 + i) 0) (getD s (0 + i + (w + 5)) 0)) → length o₀ ≡ w * w
-    → Packed w w 0 (w + 5) m o₀ o → o ≡ haloBlock w Bilinear l mx my
-mix-is w l bytes tx ty mx my hx hy ex ey s m o₀ o e k h p =
-    packed w w _ m o₀ o k h p ∙ raster-ext w w _ (over (signedTaps ty) g) (λ r c hr hc. down r c hr hc)
+    → length z₀ ≡ (w + 1) * w → Packed w (w + 1) 0 (w + 5) s z₀ z
+    → o ≡ tab (w * w) (λ i. twoTaps ty (getD z (0 + i) 0) (getD z (0 + i + w) 0)) → o ≡ haloBlock w Bilinear l mx my
+mix-is w l bytes tx ty mx my hx hy ex ey s z₀ z o e h p k =
+    k ∙ tab-raster w w _ ∙ raster-ext w w _ (over (signedTaps ty) g) (λ r c hr hc. down r c hr hc)
     ∙ joined w Bilinear l (signedTaps tx) (signedTaps ty) mx my ex ey
   where
     g : ℕ → ℕ → ℕ
     g = rowStep w (signedTaps tx) l
 
-    across : (q c n : ℕ) → n ≡ q * (w + 5) + c → n < w * (w + 5) + w → getD s n 0 ≡ g (q + 2) c
-    across q c n en hn =
-        ap (λ (z : List ℕ). getD z n 0) e ∙ getD-tab (w * (w + 5) + w) _ n 0 hn
-        ∙ ap₂ (λ (i j : ℕ). twoTaps tx (getD l i 0) (getD l j 0)) (omega (arith, add-mul q 2 (w + 5))) (omega (arith, add-mul q 2 (w + 5)))
+    across : (q c : ℕ) → twoTaps tx (getD l (2 * (w + 5) + 2 + (q * (w + 5) + c)) 0) (getD l (2 * (w + 5) + 2 + (q * (w + 5) + c) + 1) 0) ≡ g (q + 2) c
+    across q c =
+        ap₂ (λ (i j : ℕ). twoTaps tx (getD l i 0) (getD l j 0)) (omega (arith, add-mul q 2 (w + 5))) (omega (arith, add-mul q 2 (w + 5)))
         ∙ two-taps tx (middle mx tx hx ex) _ _ (getD l ((q + 2) * (w + 5) + c + 2 * 1) 0) (getD l ((q + 2) * (w + 5) + c + 3 * 1) 0) _ _
         (omega (arith, bytes ((q + 2) * (w + 5) + c + 2 * 1))) (omega (arith, bytes ((q + 2) * (w + 5) + c + 3 * 1)))
 
+    at : (q c n : ℕ) → q < w + 1 → c < w → n ≡ q * w + c → getD z n 0 ≡ g (q + 2) c
+    at q c n hq hc en =
+        ap₂ (λ (l : List ℕ) (i : ℕ). getD l i 0) (packed w (w + 1) (w * (w + 5) + w) _ s z₀ z (omega (arith, add-mul w 1 (w + 5))) e h p) en
+        ∙ getD-raster (w + 1) w _ q c hq hc
+        ∙ across q c
+
     down : (r c : ℕ) → r < w → c < w
-        → twoTaps ty (getD s (0 + (r * (w + 5) + c)) 0) (getD s (0 + (r * (w + 5) + c) + (w + 5)) 0) ≡ over (signedTaps ty) g r c
+        → twoTaps ty (getD z (0 + (r * w + c)) 0) (getD z (0 + (r * w + c) + w) 0) ≡ over (signedTaps ty) g r c
     down r c hr hc =
-        let fit = row-fits r w (w + 5) hr in
-        ap₂ (twoTaps ty) (across r c _ (omega arith) (omega arith)) (across (r + 1) c _ (omega (arith, add-mul r 1 (w + 5))) (omega arith))
+        ap₂ (twoTaps ty) (at r c _ (omega arith) hc (omega arith)) (at (r + 1) c _ (omega arith) hc (omega (arith, add-mul r 1 w)))
         ∙ ap (λ (i : ℕ). twoTaps ty (g (r + 2) c) (g i c)) (omega arith)
         ∙ two-taps ty (middle my ty hy ey) _ _ (g (r + 2) c) (g (r + 3) c) _ _ (step-le _ _) (step-le _ _)

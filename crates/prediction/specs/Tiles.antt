@@ -1,10 +1,6 @@
 -- What the planes of a split macroblock ask.
 use mathlib.Core.Path.{_≡_}
-use mathlib.Core.Bool.{true}
-use mathlib.Core.List.{List}
 use Prim.Native.Nat.{ℕ, _+_, _<_, _≤_}
-use Rattle.rfc6386.specs.Vector.{sent, mergeable}
-use Rattle.rfc6386.specs.declared.Mv.{Mv}
 use Rattle.rfc6386.specs.Picture.{Plane}
 use Rattle.rfc6386.specs.Refusal.{planeRefusal}
 
@@ -13,8 +9,3 @@ pub record Starts (p : Plane) (x y n : ℕ) : Type 0 where
   pub accepted : (a b : ℕ) → a < n → b < n → planeRefusal p (x + a) (y + b) ≡ 0
   pub x-small : x ≤ 16384
   pub y-small : y ≤ 16384
-
--- sixteen vectors that are one
-pub record One (vs : List Mv) : Type 0 where
-  pub alike : (b : ℕ) → b < 16 → sent vs b ≡ sent vs 0
-  pub mergeable-is : mergeable (sent vs 0) ≡ true

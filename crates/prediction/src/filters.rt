@@ -59,7 +59,7 @@ fn along4(halo: &[u8; 81], mx: usize) -> [u8; 16]
     requires { ⌜ mx < 8 ⌝ }
     ensures { λ r. ⌜ r ≡ haloBlock 4 FilterSet.Sixtap (now (halo .entry)) mx 0 ⌝ }
 {
-    let mut steps = [0u8; 31];
+    let mut steps = [0u8; 32];
     let mut out = [0u8; 16];
     along(halo, 4, mx, &mut steps, &mut out);
     out
@@ -80,12 +80,11 @@ fn both4(halo: &[u8; 81], mx: usize, my: usize) -> [u8; 16]
     requires { ⌜ my < 8 ⌝ }
     ensures { λ r. ⌜ r ≡ haloBlock 4 FilterSet.Sixtap (now (halo .entry)) mx my ⌝ }
 {
-    let mut steps = [0u8; 76];
     let mut columns = [0u8; 36];
     let mut out = [0u8; 16];
     let tx = taps_of(FilterSet::Sixtap, mx);
     let ty = taps_of(FilterSet::Sixtap, my);
-    both(halo, 4, tx, ty, &mut steps, &mut columns, &mut out);
+    both(halo, 4, tx, ty, &mut columns, &mut out);
     out
 }
 
@@ -112,9 +111,9 @@ fn bilinear4(halo: &[u8; 81], mx: usize, my: usize) -> [u8; 16]
     ensures { λ r. ⌜ r ≡ haloBlock 4 FilterSet.Bilinear (now (halo .entry)) mx my ⌝ }
 {
     let mut steps = [0u8; 40];
-    let mut mixes = [0u8; 31];
+    let mut columns = [0u8; 20];
     let mut out = [0u8; 16];
-    mixed(halo, 4, mx, my, &mut steps, &mut mixes, &mut out);
+    mixed(halo, 4, mx, my, &mut steps, &mut columns, &mut out);
     out
 }
 
@@ -163,7 +162,7 @@ fn along8(halo: &[u8; 169], mx: usize) -> [u8; 64]
     requires { ⌜ mx < 8 ⌝ }
     ensures { λ r. ⌜ r ≡ haloBlock 8 FilterSet.Sixtap (now (halo .entry)) mx 0 ⌝ }
 {
-    let mut steps = [0u8; 99];
+    let mut steps = [0u8; 112];
     let mut out = [0u8; 64];
     along(halo, 8, mx, &mut steps, &mut out);
     out
@@ -184,12 +183,11 @@ fn both8(halo: &[u8; 169], mx: usize, my: usize) -> [u8; 64]
     requires { ⌜ my < 8 ⌝ }
     ensures { λ r. ⌜ r ≡ haloBlock 8 FilterSet.Sixtap (now (halo .entry)) mx my ⌝ }
 {
-    let mut steps = [0u8; 164];
     let mut columns = [0u8; 104];
     let mut out = [0u8; 64];
     let tx = taps_of(FilterSet::Sixtap, mx);
     let ty = taps_of(FilterSet::Sixtap, my);
-    both(halo, 8, tx, ty, &mut steps, &mut columns, &mut out);
+    both(halo, 8, tx, ty, &mut columns, &mut out);
     out
 }
 
@@ -216,9 +214,9 @@ fn bilinear8(halo: &[u8; 169], mx: usize, my: usize) -> [u8; 64]
     ensures { λ r. ⌜ r ≡ haloBlock 8 FilterSet.Bilinear (now (halo .entry)) mx my ⌝ }
 {
     let mut steps = [0u8; 112];
-    let mut mixes = [0u8; 99];
+    let mut columns = [0u8; 72];
     let mut out = [0u8; 64];
-    mixed(halo, 8, mx, my, &mut steps, &mut mixes, &mut out);
+    mixed(halo, 8, mx, my, &mut steps, &mut columns, &mut out);
     out
 }
 
@@ -267,7 +265,7 @@ fn along16(halo: &[u8; 441], mx: usize) -> [u8; 256]
     requires { ⌜ mx < 8 ⌝ }
     ensures { λ r. ⌜ r ≡ haloBlock 16 FilterSet.Sixtap (now (halo .entry)) mx 0 ⌝ }
 {
-    let mut steps = [0u8; 331];
+    let mut steps = [0u8; 336];
     let mut out = [0u8; 256];
     along(halo, 16, mx, &mut steps, &mut out);
     out
@@ -288,12 +286,11 @@ fn both16(halo: &[u8; 441], mx: usize, my: usize) -> [u8; 256]
     requires { ⌜ my < 8 ⌝ }
     ensures { λ r. ⌜ r ≡ haloBlock 16 FilterSet.Sixtap (now (halo .entry)) mx my ⌝ }
 {
-    let mut steps = [0u8; 436];
     let mut columns = [0u8; 336];
     let mut out = [0u8; 256];
     let tx = taps_of(FilterSet::Sixtap, mx);
     let ty = taps_of(FilterSet::Sixtap, my);
-    both(halo, 16, tx, ty, &mut steps, &mut columns, &mut out);
+    both(halo, 16, tx, ty, &mut columns, &mut out);
     out
 }
 
@@ -320,9 +317,9 @@ fn bilinear16(halo: &[u8; 441], mx: usize, my: usize) -> [u8; 256]
     ensures { λ r. ⌜ r ≡ haloBlock 16 FilterSet.Bilinear (now (halo .entry)) mx my ⌝ }
 {
     let mut steps = [0u8; 352];
-    let mut mixes = [0u8; 331];
+    let mut columns = [0u8; 272];
     let mut out = [0u8; 256];
-    mixed(halo, 16, mx, my, &mut steps, &mut mixes, &mut out);
+    mixed(halo, 16, mx, my, &mut steps, &mut columns, &mut out);
     out
 }
 

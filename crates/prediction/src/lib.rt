@@ -3,7 +3,6 @@
 mod block;
 mod fetch;
 mod filters;
-mod merging;
 mod passes;
 mod place;
 mod predict;

@@ -219,7 +219,7 @@ pub fn pixels_of_16(
     ensures { λ r. ⌜ r ≡ pixels 16 (image (planeOf (now (plane .entry)) stride w h)) x y mv ⌝ }
 {
     let mut out = [0u8; 256];
-    fetch_pixels(plane, stride, w, h, x, y, mv, 16, 21, &mut out);
+    fetch_pixels(plane, stride, w, h, x, y, mv, 16, 16, &mut out);
     out
 }
 

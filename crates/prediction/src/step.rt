@@ -8,6 +8,7 @@ ghost use Rattle.rfc6386.specs.Filter.{step};
 ghost use Rattle.rfc6386.specs.Raster.{tab};
 ghost use Rattle.rfc6386.specs.Picture.{stepAt};
 ghost use Rattle.prediction.specs.Passes.{twoTaps};
+ghost use Rattle.prediction.specs.Rows.{laid};
 ghost use Rattle.prediction.specs.Taps.{signedTaps, Small};
 use crate::taps::Taps;
 
@@ -63,16 +64,16 @@ pub fn weigh_at(src: &[u8], i: usize, gap: usize, t: Taps) -> u8
     )
 }
 
-// n steps over src from `at` on: dst is filled with them.
-pub fn line(src: &[u8], at: usize, gap: usize, dst: &mut [u8], n: usize, t: Taps)
+// n steps over src from `at` on, to dst from `to` on.
+pub fn line(src: &[u8], at: usize, gap: usize, dst: &mut [u8], to: usize, n: usize, t: Taps)
     requires { ⌜ Small t ⌝ }
     requires { ⌜ at + n + 5 * gap ≤ length (now src) ⌝ }
-    requires { ⌜ length (now dst) ≡ n ⌝ }
-    ensures { λ _. ⌜ now (dst .exit) ≡ tab n (λ i. stepAt (signedTaps t) (now (src .entry)) (at + i) gap) ⌝ }
+    requires { ⌜ to + n ≤ length (now dst) ⌝ }
+    ensures { λ _. ⌜ now (dst .exit) ≡ laid (now (dst .entry)) to n (λ i. stepAt (signedTaps t) (now (src .entry)) (at + i) gap) ⌝ }
 {
     let mut i: usize = 0;
     while i < n {
-        dst[i] = weigh_at(src, at + i, gap, t);
+        dst[to + i] = weigh_at(src, at + i, gap, t);
         i += 1;
     }
 }

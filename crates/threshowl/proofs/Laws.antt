@@ -22,7 +22,7 @@ use Rattle.rfc6386.specs.Promises.{one-result}
 use Rattle.rfc6386.specs.Macroblock.{answered, noSamples}
 use Rattle.rfc6386.specs.Laws.Vectors.{wrap-in, wrap-high}
 use Rattle.rfc6386.specs.Laws.Refusals.{done, refused}
-use Rattle.threshowl.specs.Boundary.{setOf, flat, roomRefusal, callNumber, Left, refusedBy}
+use Rattle.threshowl.specs.Boundary.{setOf, codeRefusal, codesRefusal, flat, roomRefusal, callNumber, Left, refusedBy}
 use Rattle.rfc6386.specs.declared.FilterSet.the-variants.{Bilinear}
 use Rattle.rfc6386.specs.declared.Prediction.{Prediction}
 
@@ -109,6 +109,14 @@ module _ (p : Prediction) (codes : ℕ) (out : List ℕ) (n : ℕ) (e : n ≡ ca
 
 pub left-as : {p q : Prediction} {n m : ℕ} {out out′ : List ℕ} {r : ℕ} → p ≡ q → n ≡ m → Left p n out r out′ → Left q m out r out′
 left-as {out} {out′} {r} e f h = subst (λ (x : Prediction × ℕ). Left (x .0) (x .1) out r out′) (λ i. (e i, f i)) h
+
+or-none : (n : ℕ) → orElse n 0 ≡ n
+or-none zero = refl
+or-none (suc n) = refl
+
+-- 64 bytes, as sixteen vectors have, leave the number to the filter code
+pub codes-as : (filter count : ℕ) → count ≡ 64 → codeRefusal filter ≡ codesRefusal filter count
+codes-as filter count e = sym (or-none (codeRefusal filter)) ∙ ap (codesRefusal filter) (sym e)
 
 -- ---- a number that comes after a prediction's own
 own-zero : (n m : ℕ) → orElse n m ≡ 0 → n ≡ 0

@@ -9,9 +9,9 @@ use crate::refusals::code_refusal;
 use crate::refusals::count_refusal;
 use crate::refusals::room_refusal;
 use crate::vectors::mvs_of_bytes;
+use motion_vectors::are_one;
 use prediction::or_else;
 use prediction::predict_inter_mb;
-use prediction::predict_merging;
 use prediction::predict_split_mv;
 use rfc6386::FilterSet;
 use rfc6386::Mv;
@@ -131,6 +131,8 @@ pub extern "C" fn threshowl_predict_split(
     finish(p, codes_refusal(filter, vectors.len()), out)
 }
 
+// Split prediction, by the whole call where the sixteen vectors are one: so `predict_inter_mb` has one caller here, and the compiler inlines
+// it.
 #[no_mangle]
 pub extern "C" fn threshowl_predict_merging(
     y: &[u8],
@@ -149,23 +151,39 @@ pub extern "C" fn threshowl_predict_merging(
 ) -> u32
     ensures { λ r. ⌜ Left (split (setOf filter) (fullPixel (flagOf «full_pixel»)) (lent (now (y .entry)) (now (u .entry)) (now (v .entry)) (record { «y_stride» = «y_stride»; «uv_stride» = «uv_stride»; «mb_cols» = «mb_cols»; «mb_rows» = «mb_rows» })) «mb_col» «mb_row» (vectorsOf (now (vectors .entry)))) (codesRefusal filter (length (now (vectors .entry)))) (now (out .entry)) r (now (out .exit)) ⌝ }
 {
-    let sizes = Sizes {
+    let mvs = mvs_of_bytes(vectors);
+    if vectors.len() == 64 && are_one(mvs) {
+        let first = mvs[0];
+        return threshowl_predict_whole(
+            y,
+            u,
+            v,
+            y_stride,
+            uv_stride,
+            mb_cols,
+            mb_rows,
+            mb_col,
+            mb_row,
+            first.row,
+            first.col,
+            filter,
+            full_pixel,
+            out,
+        );
+    }
+    threshowl_predict_split(
+        y,
+        u,
+        v,
         y_stride,
         uv_stride,
         mb_cols,
         mb_rows,
-    };
-    let mvs = mvs_of_bytes(vectors);
-    let p = predict_merging(
-        y,
-        u,
-        v,
-        sizes,
         mb_col,
         mb_row,
-        mvs,
-        full_pixel != 0,
-        set_of(filter),
-    );
-    finish(p, codes_refusal(filter, vectors.len()), out)
+        vectors,
+        filter,
+        full_pixel,
+        out,
+    )
 }

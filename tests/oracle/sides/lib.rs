@@ -4,6 +4,7 @@
 pub mod one_plane;
 pub mod pictures;
 pub mod random;
+pub mod shims;
 
 use original::motion_comp::{self, ReferencePlanes, BILINEAR_FILTERS, SIXTAP_FILTERS};
 pub use original::motion_vector::Mv;

@@ -5,8 +5,8 @@ use Rattle.prediction.proofs.filters.both4.Tie as tie
 
 returns : tie.Need-returns
 returns c =
-    let b = c .before .before .before in
-    let t = b .before .before .before .before .before in
+    let b = c .before .before in
+    let t = b .before .before .before .before in
     b .both .ensures _ _ (t .before .taps-of .ensures .0) (t .taps-of2 .ensures .0)
 
 pub both4-spec : {M : Type 1} → statement M
@@ -15,7 +15,6 @@ both4-spec =
     (tie.spec
     (λ c κs. search needs)
     (λ c κs. search needs)
-    (λ c. search needs)
     (λ c. search needs)
     (λ c. search needs)
     (λ c κs. search needs)

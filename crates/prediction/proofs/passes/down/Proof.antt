@@ -1,6 +1,8 @@
 -- `down` meets its contract, by `down-is`, which holds at any width. Assumes nothing.
 use borrow.Author.Needs.{needs}
+use mathlib.Core.Path.{_∙_}
 use Rattle.rfc6386.specs.declared.FilterSet.the-variants.{Sixtap}
+use Rattle.prediction.proofs.Copying.{laid-over}
 use Rattle.prediction.proofs.Packing.{down-asks, down-is}
 use Rattle.prediction.proofs.passes.down.Statement.{statement}
 use Rattle.prediction.proofs.passes.down.Tie as tie
@@ -12,7 +14,7 @@ returns c =
     let k = t .before .before .before in
     let s = k .before in
     down-is (s .args .w) Sixtap (s .args .halo .now) (λ i. k .shared-slice-known .given i .fits) _ (s .args .my) (t .taps-of .ensures .0) _ _ _
-    (s .pre .1 .1) (p .copy-rect .ensures) (c .before .before .line .ensures)
+    (s .pre .1 .1) (p .copy-rect .ensures) (c .before .before .line .ensures ∙ laid-over _ _ _ (s .pre .0 .block-is))
 
 pub down-spec : {M : Type 1} → statement M
 down-spec =

@@ -11,7 +11,7 @@ returns : tie.Need-returns
 returns c =
     let t = c .before .before in
     let a = t .before .before .before .before .before .args in
-    let one = t .before .are-one .ensures (t .if1 .taken) in
+    let one = t .before .are-one .ensures .0 (t .if1 .taken) in
     c .predict-inter-mb .ensures
     ∙ merge-alike (a .set) (fullPixel (a .full-pixel)) (lent (a .y .now) (a .u .now) (a .v .now) (a .sizes)) (a .mb-col) (a .mb-row) (a .t7) (sent (a .t7) 0)
     (one .alike) (one .mergeable-is)

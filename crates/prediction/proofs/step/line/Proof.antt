@@ -1,17 +1,22 @@
--- `line` meets its contract: the loop stores the steps one after the other. Assumes nothing.
+-- `line` meets its contract: the loop lays the steps, one a turn. Assumes nothing.
 use Prim.Native.Nat.{_+_, _-_}
 use native.Mathlib.Omega.{arith}
 use Rattle.rfc6386.specs.Picture.{stepAt}
 use Rattle.prediction.specs.Taps.{signedTaps}
-use Rattle.prediction.proofs.Filling.{Filled, filled-none, filled-more, filled-all}
+use Rattle.prediction.proofs.Copying.{Laying, laying-none, laying-more, laying-all}
 use Rattle.prediction.proofs.step.line.Statement.{statement}
 use Rattle.prediction.proofs.step.line.Tie as tie
 
 abbrev Inv-loop : tie.InvT-loop
-Inv-loop src at gap dst₀ n t i₀ dst i = Filled n (λ i. stepAt (signedTaps t) src (at + i) gap) dst i
+Inv-loop src at gap dst₀ to n t i₀ dst i = Laying dst₀ to n (λ i. stepAt (signedTaps t) src (at + i) gap) dst i
 
 abbrev μ-loop : tie.MeasureT-loop
-μ-loop src at gap dst₀ n t i₀ dst i = n - i
+μ-loop src at gap dst₀ to n t i₀ dst i = n - i
+
+loop-again : tie.Need-loop-again Inv-loop μ-loop
+loop-again c =
+    let l = c .before .before in
+    laying-more (l .loop .inv) (l .before .before .before .pre .1 .1) (c .before .loop-test .taken) (c .weigh-at .ensures)
 
 pub line-spec : {M : Type 1} → statement M
 line-spec =
@@ -19,12 +24,13 @@ line-spec =
     (tie.spec
     Inv-loop
     μ-loop
-    (λ c. filled-none (c .before .before .pre .1 .1))
+    (λ c. laying-none)
     (λ c. omega arith)
     (λ c κs. omega arith)
     (λ c. omega arith)
     (λ c. omega arith)
     (λ c. omega arith)
-    (λ c. filled-more (c .before .before .loop .inv) (c .before .loop-test .taken) (c .weigh-at .ensures))
     (λ c. omega arith)
-    (λ c. filled-all (c .before .loop .inv) (c .loop-test .left)))
+    loop-again
+    (λ c. c .before .loop .inv .size)
+    (λ c. laying-all (c .before .loop .inv) (c .loop-test .left)))
