@@ -1,5 +1,5 @@
 // How much stack a call uses: it is run on a painted stack of its own, and the
-// lowest byte that has changed is looked for. For x86-64, as the library is.
+// lowest byte that has changed is looked for.
 
 use std::arch::asm;
 use std::ffi::c_void;
@@ -30,6 +30,7 @@ fn used_of(paint: u8, run: Run, context: *const c_void) -> usize {
     STACK - slack - lowest.min(STACK - slack)
 }
 
+#[cfg(target_arch = "x86_64")]
 unsafe fn call_on(top: *mut u8, run: Run, context: *const c_void) {
     asm!(
         "mov r12, rsp",
@@ -40,6 +41,21 @@ unsafe fn call_on(top: *mut u8, run: Run, context: *const c_void) {
         run = in(reg) run,
         in("rdi") context,
         out("r12") _,
+        clobber_abi("C"),
+    );
+}
+
+#[cfg(target_arch = "aarch64")]
+unsafe fn call_on(top: *mut u8, run: Run, context: *const c_void) {
+    asm!(
+        "mov x20, sp",
+        "mov sp, {top}",
+        "blr {run}",
+        "mov sp, x20",
+        top = in(reg) top,
+        run = in(reg) run,
+        in("x0") context,
+        out("x20") _,
         clobber_abi("C"),
     );
 }

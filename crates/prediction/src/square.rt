@@ -87,8 +87,8 @@ fn inside(src: i64, n: usize, size: usize) -> bool
     (src as usize) <= size - n
 }
 
-// The square, to out. Where all of it lies inside, nothing needs clamping. Elsewhere a square of `side`, 13 or 21, is clamped and its corner
-// taken: a small clamped square of a side that the compiler knows would be unrolled into single bytes, and slow down the plain copy too.
+// The square, to out. Where all of it lies inside, nothing needs clamping. Elsewhere a square of `side`, n or little more, is clamped and its
+// corner taken: with some sides the compiler unrolls both ways into single bytes and slows down the plain copy, and the callers' do not.
 fn fetch(
     plane: &[u8],
     stride: usize,
@@ -185,7 +185,7 @@ pub fn pixels_of_4(
     ensures { λ r. ⌜ r ≡ pixels 4 (image (planeOf (now (plane .entry)) stride w h)) x y mv ⌝ }
 {
     let mut out = [0u8; 16];
-    fetch_pixels(plane, stride, w, h, x, y, mv, 4, 13, &mut out);
+    fetch_pixels(plane, stride, w, h, x, y, mv, 4, 5, &mut out);
     out
 }
 
@@ -202,7 +202,7 @@ pub fn pixels_of_8(
     ensures { λ r. ⌜ r ≡ pixels 8 (image (planeOf (now (plane .entry)) stride w h)) x y mv ⌝ }
 {
     let mut out = [0u8; 64];
-    fetch_pixels(plane, stride, w, h, x, y, mv, 8, 13, &mut out);
+    fetch_pixels(plane, stride, w, h, x, y, mv, 8, 9, &mut out);
     out
 }
 
@@ -236,7 +236,7 @@ pub fn halo_of_4(
     ensures { λ r. ⌜ r ≡ halo 4 (image (planeOf (now (plane .entry)) stride w h)) x y mv ⌝ }
 {
     let mut out = [0u8; 81];
-    fetch_halo(plane, stride, w, h, x, y, mv, 4, 13, &mut out);
+    fetch_halo(plane, stride, w, h, x, y, mv, 4, 11, &mut out);
     out
 }
 

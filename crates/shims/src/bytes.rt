@@ -70,11 +70,24 @@ pub fn bytes_of(mv: Mv) -> [u8; 4] {
     ]
 }
 
-// As much of src as dst has room for, and zeros after it.
-pub fn fill(dst: &mut [u8], src: &[u8]) {
+// A list that is shorter than dst, and zeros after it.
+fn pad(dst: &mut [u8], src: &[u8]) {
     let mut i: usize = 0;
     while i < dst.len() {
         dst[i] = byte_at(src, i);
+        i += 1;
+    }
+}
+
+// As much of src as dst has room for, and zeros after it.
+pub fn fill(dst: &mut [u8], src: &[u8]) {
+    if src.len() < dst.len() {
+        pad(dst, src);
+        return;
+    }
+    let mut i: usize = 0;
+    while i < dst.len() {
+        dst[i] = src[i];
         i += 1;
     }
 }
