@@ -63,7 +63,7 @@ impl Input {
         Case {
             title: self.title.into(),
             goal: self.goal,
-            agrees: calls.iter().all(|call| agree(self.form, call)),
+            agrees: Box::new(move || calls.iter().all(|call| agree(self.form, call))),
             product: turns(calls, move |call, out| {
                 black_box(unsafe { product(self.form, call, out.as_mut_ptr()) });
             }),

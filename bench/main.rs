@@ -6,9 +6,10 @@
 // calls; in every round both are timed, and which comes first alternates. The
 // least time of all rounds counts.
 //
-// With the word `titles` it only lists its cases; with three words, the number
-// of a case, `product` or `Rust`, and a number of turns, it only makes that
-// side's calls so often: bench/count has an emulator count their instructions.
+// With the word `titles` it only lists its cases, with `stack` it only measures
+// the stack; with three words, the number of a case, `product` or `Rust`, and a
+// number of turns, it only makes that side's calls so often: bench/count has an
+// emulator count their instructions.
 
 mod macroblocks;
 mod one_plane;
@@ -33,8 +34,8 @@ pub struct Case<'a> {
     pub title: String,
     /// The product's time over the original's is to be no more than this.
     pub goal: Option<f64>,
-    /// Both sides gave the same samples.
-    pub agrees: bool,
+    /// Both sides give the same samples.
+    pub agrees: Box<dyn Fn() -> bool + 'a>,
     pub product: Turns<'a>,
     pub original: Turns<'a>,
 }
@@ -164,7 +165,7 @@ fn only_calls(words: &[String], cases: &[Case]) -> Option<()> {
 
 fn timed(cases: &[Case], of_macroblocks: usize, picture: &Picture) -> ExitCode {
     for case in cases {
-        if !case.agrees {
+        if !(case.agrees)() {
             println!("{}: the two sides differ", case.title);
             return ExitCode::FAILURE;
         }
@@ -188,6 +189,10 @@ fn main() -> ExitCode {
         [] => timed(&cases, of_macroblocks, &picture),
         [titles] if titles == "titles" => {
             cases.iter().for_each(|case| println!("{}", case.title));
+            ExitCode::SUCCESS
+        }
+        [stack] if stack == "stack" => {
+            macroblocks::print_stack(&picture);
             ExitCode::SUCCESS
         }
         _ => match only_calls(&words, &cases) {

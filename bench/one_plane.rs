@@ -17,7 +17,7 @@ fn case<'a, C: Copy + 'a>(
     product: impl Fn(&C, &mut [u8]) -> u32 + Copy + 'a,
     original: impl Fn(&C, &mut [u8]) + Copy + 'a,
 ) -> Case<'a> {
-    let agree = |call: &C| {
+    let agree = move |call: &C| {
         let [mut ours, mut theirs] = [[0; ROOM]; 2];
         let number = product(call, &mut ours[..samples]);
         original(call, &mut theirs[..samples]);
@@ -26,7 +26,7 @@ fn case<'a, C: Copy + 'a>(
     Case {
         title,
         goal: Some(1.0),
-        agrees: calls.iter().all(agree),
+        agrees: Box::new(move || calls.iter().all(agree)),
         product: turns(calls, move |call, out| {
             black_box(product(call, &mut out[..samples]));
         }),
