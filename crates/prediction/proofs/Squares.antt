@@ -15,7 +15,7 @@ use Rattle.rfc6386.specs.Raster.{raster, written}
 use Rattle.rfc6386.specs.Picture.{Plane, Image, image, square}
 use Rattle.rfc6386.specs.Laws.Raster.{row-fits, raster-ext, within-true, getD-written}
 use Rattle.prediction.specs.Rows.{laid, Room}
-use Rattle.prediction.specs.Places.{Inside, Source, clampedRow, clampedSquare}
+use Rattle.prediction.specs.Places.{Inside, Source, clampedRow, clampedRect}
 use Rattle.prediction.proofs.Copying.{Writing, writing-more}
 
 -- a signed argument as its callee reads it: its range
@@ -34,11 +34,11 @@ module _ {w : Width} {x y : ℤ} {u d u′ d′ : ℕ} (hx : Held w x u d) (hy :
 pub in-plane : {p : Plane} {x₀ y₀ : ℤ} → Source p x₀ y₀ → (y : ℕ) → y < p .height → y * p .stride + p .width ≤ length (p .bytes)
 in-plane {p} S y h = let l : y ≤ p .height - 1 = omega arith in omega (arith, S .fits .bytes, mul-le-mul-right (p .stride) l)
 
--- ---- the clamped square, and its corner
--- one more row of a clamped square
-pub clamped-more : (p : Plane) (x y : ℤ) {n r v : ℕ} {d₀ d d′ : List ℕ} → Writing d₀ n 0 0 n n (λ r c. image p (x +ℤ pos c) (y +ℤ pos r)) d r → r < n
+-- ---- the clamped rectangle, and its corner
+-- one more row of it
+pub clamped-more : (p : Plane) (x y : ℤ) {n rows r v : ℕ} {d₀ d d′ : List ℕ} → Writing d₀ n 0 0 n rows (λ r c. image p (x +ℤ pos c) (y +ℤ pos r)) d r → r < rows
     → v ≡ clamped (y +ℤ pos r) (p .height) → d′ ≡ clampedRow (p .bytes) (v * p .stride) (p .width) x n d (r * n)
-    → Writing d₀ n 0 0 n n (λ r c. image p (x +ℤ pos c) (y +ℤ pos r)) d′ (r + 1)
+    → Writing d₀ n 0 0 n rows (λ r c. image p (x +ℤ pos c) (y +ℤ pos r)) d′ (r + 1)
 unfolding image
 clamped-more p x y {n} {r} {d = d} W h ev e =
     let to : r * n ≡ (0 + r) * n + 0 = omega arith in
@@ -52,12 +52,12 @@ written-at d w rows f r c hr hc room =
     ∙ getD-written d w 0 0 w rows f (r * w + c) (omega (arith, row-fits r rows w hr))
     ∙ rw (digits-div r hc, digits-mod r hc, within-true 0 rows r (omega arith) (omega arith), within-true 0 w c (omega arith) (omega arith)) (ap₂ f (omega arith) (omega arith))
 
-pub corner-is : (p : Plane) (x y : ℤ) (d : List ℕ) {n side : ℕ} {wide : List ℕ} → n ≤ side → side * side ≤ length d → wide ≡ clampedSquare p x y side d
-    → raster n n (λ r c. getD wide (0 + r * side + c) 0) ≡ square n (image p) x y
+pub corner-is : (p : Plane) (x y : ℤ) (d : List ℕ) {n cols rows : ℕ} {wide : List ℕ} → n ≤ cols → n ≤ rows → rows * cols ≤ length d
+    → wide ≡ clampedRect p x y cols rows d → raster n n (λ r c. getD wide (0 + r * cols + c) 0) ≡ square n (image p) x y
 unfolding square
-corner-is p x y d {n} {side} h room e =
+corner-is p x y d {n} {cols} {rows} h k room e =
     raster-ext n n _ _
-    (λ r c hr hc. ap (λ (l : List ℕ). getD l (0 + r * side + c) 0) e ∙ written-at d side side (λ r c. image p (x +ℤ pos c) (y +ℤ pos r)) r c (omega arith) (omega arith) room)
+    (λ r c hr hc. ap (λ (l : List ℕ). getD l (0 + r * cols + c) 0) e ∙ written-at d cols rows (λ r c. image p (x +ℤ pos c) (y +ℤ pos r)) r c (omega arith) (omega arith) room)
 
 -- ---- the plain square
 -- the n places from z on are i, i + 1, .., all inside

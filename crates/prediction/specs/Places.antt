@@ -34,6 +34,6 @@ pub record Source (p : Plane) (x y : ℤ) : Type 0 where
 abbrev pub clampedRow : List ℕ → ℕ → ℕ → ℤ → ℕ → List ℕ → ℕ → List ℕ
 clampedRow bytes at w x n out to = laid out to n (λ c. getD bytes (at + clamped (x +ℤ pos c) w) 0)
 
--- out with the n by n samples from column x, row y on in its first n * n places
-abbrev pub clampedSquare : Plane → ℤ → ℤ → ℕ → List ℕ → List ℕ
-clampedSquare p x y n out = written out n 0 0 n n (λ r c. image p (x +ℤ pos c) (y +ℤ pos r))
+-- out with `rows` rows of `cols` samples from column x, row y on in its first rows * cols places
+abbrev pub clampedRect : Plane → ℤ → ℤ → ℕ → ℕ → List ℕ → List ℕ
+clampedRect p x y cols rows out = written out cols 0 0 cols rows (λ r c. image p (x +ℤ pos c) (y +ℤ pos r))

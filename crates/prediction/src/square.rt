@@ -10,7 +10,7 @@ ghost use Rattle.rfc6386.specs.Vector.{wholePart};
 ghost use Rattle.rfc6386.specs.Picture.{image, square, pixels, halo};
 ghost use Rattle.rfc6386.specs.Refusal.{planeRefusal};
 ghost use Rattle.rfc6386.specs.Block.{planeOf};
-ghost use Rattle.prediction.specs.Places.{Near, Inside, Source, clampedRow, clampedSquare};
+ghost use Rattle.prediction.specs.Places.{Near, Inside, Source, clampedRow, clampedRect};
 use crate::rect::copy_rect;
 use motion_vectors::whole_part;
 use rfc6386::Mv;
@@ -49,7 +49,7 @@ fn clamped_row(plane: &[u8], at: usize, w: usize, x0: i64, n: usize, out: &mut [
     }
 }
 
-// n by n clamped samples, to the first n * n bytes of out.
+// `rows` rows of `cols` clamped samples, to the first rows * cols bytes of out.
 fn clamped(
     plane: &[u8],
     stride: usize,
@@ -57,17 +57,27 @@ fn clamped(
     h: usize,
     x0: i64,
     y0: i64,
-    n: usize,
+    cols: usize,
+    rows: usize,
     out: &mut [u8],
 )
     requires { ⌜ Source (planeOf (now plane) stride w h) x0 y0 ⌝ }
-    requires { ⌜ n ≤ 21 ⌝ }
-    requires { ⌜ n * n ≤ length (now out) ⌝ }
-    ensures { λ _. ⌜ now (out .exit) ≡ clampedSquare (planeOf (now (plane .entry)) stride w h) x0 y0 n (now (out .entry)) ⌝ }
+    requires { ⌜ cols ≤ 21 ⌝ }
+    requires { ⌜ rows ≤ 21 ⌝ }
+    requires { ⌜ rows * cols ≤ length (now out) ⌝ }
+    ensures { λ _. ⌜ now (out .exit) ≡ clampedRect (planeOf (now (plane .entry)) stride w h) x0 y0 cols rows (now (out .entry)) ⌝ }
 {
     let mut r: usize = 0;
-    while r < n {
-        clamped_row(plane, clamp_at(y0, r, h) * stride, w, x0, n, out, r * n);
+    while r < rows {
+        clamped_row(
+            plane,
+            clamp_at(y0, r, h) * stride,
+            w,
+            x0,
+            cols,
+            out,
+            r * cols,
+        );
         r += 1;
     }
 }
@@ -87,8 +97,9 @@ fn inside(src: i64, n: usize, size: usize) -> bool
     (src as usize) <= size - n
 }
 
-// The square, to out. Where all of it lies inside, nothing needs clamping. Elsewhere a square of `side`, n or little more, is clamped and its
-// corner taken: with some sides the compiler unrolls both ways into single bytes and slows down the plain copy, and the callers' do not.
+// The square, to out. Where all of it lies inside, nothing needs clamping. Elsewhere `rows` rows of `cols` samples, n or little more, are
+// clamped and the corner taken: with some counts the compiler unrolls both ways into single bytes and slows down the plain copy, and the
+// callers' are the least that do not.
 fn fetch(
     plane: &[u8],
     stride: usize,
@@ -97,11 +108,13 @@ fn fetch(
     x0: i64,
     y0: i64,
     n: usize,
-    side: usize,
+    cols: usize,
+    rows: usize,
     out: &mut [u8],
 )
     requires { ⌜ Source (planeOf (now plane) stride w h) x0 y0 ⌝ }
-    requires { ⌜ (1 ≤ n) × (n ≤ side) × (side ≤ 21) ⌝ }
+    requires { ⌜ (1 ≤ n) × (n ≤ cols) × (cols ≤ 21) ⌝ }
+    requires { ⌜ (n ≤ rows) × (rows ≤ 21) ⌝ }
     requires { ⌜ length (now out) ≡ n * n ⌝ }
     ensures { λ _. ⌜ now (out .exit) ≡ square n (image (planeOf (now (plane .entry)) stride w h)) x0 y0 ⌝ }
 {
@@ -113,8 +126,8 @@ fn fetch(
         }
     }
     let mut wide = [0u8; 441];
-    clamped(plane, stride, w, h, x0, y0, side, &mut wide);
-    copy_rect(out, n, 0, 0, n, n, &wide, 0, side);
+    clamped(plane, stride, w, h, x0, y0, cols, rows, &mut wide);
+    copy_rect(out, n, 0, 0, n, n, &wide, 0, cols);
 }
 
 // Where a block's samples start on one axis, at whole pixels.
@@ -136,17 +149,19 @@ fn fetch_pixels(
     y: usize,
     mv: Mv,
     n: usize,
-    side: usize,
+    cols: usize,
+    rows: usize,
     out: &mut [u8],
 )
     requires { ⌜ planeRefusal (planeOf (now plane) stride w h) x y ≡ 0 ⌝ }
-    requires { ⌜ (1 ≤ n) × (n ≤ side) × (side ≤ 21) ⌝ }
+    requires { ⌜ (1 ≤ n) × (n ≤ cols) × (cols ≤ 21) ⌝ }
+    requires { ⌜ (n ≤ rows) × (rows ≤ 21) ⌝ }
     requires { ⌜ length (now out) ≡ n * n ⌝ }
     ensures { λ _. ⌜ now (out .exit) ≡ pixels n (image (planeOf (now (plane .entry)) stride w h)) x y mv ⌝ }
 {
     let x0 = origin(x, mv.col);
     let y0 = origin(y, mv.row);
-    fetch(plane, stride, w, h, x0, y0, n, side, out);
+    fetch(plane, stride, w, h, x0, y0, n, cols, rows, out);
 }
 
 // With the halo: two before and three after.
@@ -159,17 +174,19 @@ fn fetch_halo(
     y: usize,
     mv: Mv,
     n: usize,
-    side: usize,
+    cols: usize,
+    rows: usize,
     out: &mut [u8],
 )
     requires { ⌜ planeRefusal (planeOf (now plane) stride w h) x y ≡ 0 ⌝ }
-    requires { ⌜ (1 ≤ n) × (n + 5 ≤ side) × (side ≤ 21) ⌝ }
+    requires { ⌜ (1 ≤ n) × (n + 5 ≤ cols) × (cols ≤ 21) ⌝ }
+    requires { ⌜ (n + 5 ≤ rows) × (rows ≤ 21) ⌝ }
     requires { ⌜ length (now out) ≡ (n + 5) * (n + 5) ⌝ }
     ensures { λ _. ⌜ now (out .exit) ≡ halo n (image (planeOf (now (plane .entry)) stride w h)) x y mv ⌝ }
 {
     let x0 = origin(x, mv.col) - 2;
     let y0 = origin(y, mv.row) - 2;
-    fetch(plane, stride, w, h, x0, y0, n + 5, side, out);
+    fetch(plane, stride, w, h, x0, y0, n + 5, cols, rows, out);
 }
 
 pub fn pixels_of_4(
@@ -185,7 +202,7 @@ pub fn pixels_of_4(
     ensures { λ r. ⌜ r ≡ pixels 4 (image (planeOf (now (plane .entry)) stride w h)) x y mv ⌝ }
 {
     let mut out = [0u8; 16];
-    fetch_pixels(plane, stride, w, h, x, y, mv, 4, 5, &mut out);
+    fetch_pixels(plane, stride, w, h, x, y, mv, 4, 5, 5, &mut out);
     out
 }
 
@@ -202,7 +219,7 @@ pub fn pixels_of_8(
     ensures { λ r. ⌜ r ≡ pixels 8 (image (planeOf (now (plane .entry)) stride w h)) x y mv ⌝ }
 {
     let mut out = [0u8; 64];
-    fetch_pixels(plane, stride, w, h, x, y, mv, 8, 9, &mut out);
+    fetch_pixels(plane, stride, w, h, x, y, mv, 8, 9, 9, &mut out);
     out
 }
 
@@ -219,7 +236,7 @@ pub fn pixels_of_16(
     ensures { λ r. ⌜ r ≡ pixels 16 (image (planeOf (now (plane .entry)) stride w h)) x y mv ⌝ }
 {
     let mut out = [0u8; 256];
-    fetch_pixels(plane, stride, w, h, x, y, mv, 16, 16, &mut out);
+    fetch_pixels(plane, stride, w, h, x, y, mv, 16, 16, 16, &mut out);
     out
 }
 
@@ -236,7 +253,7 @@ pub fn halo_of_4(
     ensures { λ r. ⌜ r ≡ halo 4 (image (planeOf (now (plane .entry)) stride w h)) x y mv ⌝ }
 {
     let mut out = [0u8; 81];
-    fetch_halo(plane, stride, w, h, x, y, mv, 4, 11, &mut out);
+    fetch_halo(plane, stride, w, h, x, y, mv, 4, 9, 12, &mut out);
     out
 }
 
@@ -253,7 +270,7 @@ pub fn halo_of_8(
     ensures { λ r. ⌜ r ≡ halo 8 (image (planeOf (now (plane .entry)) stride w h)) x y mv ⌝ }
 {
     let mut out = [0u8; 169];
-    fetch_halo(plane, stride, w, h, x, y, mv, 8, 13, &mut out);
+    fetch_halo(plane, stride, w, h, x, y, mv, 8, 13, 13, &mut out);
     out
 }
 
@@ -270,6 +287,6 @@ pub fn halo_of_16(
     ensures { λ r. ⌜ r ≡ halo 16 (image (planeOf (now (plane .entry)) stride w h)) x y mv ⌝ }
 {
     let mut out = [0u8; 441];
-    fetch_halo(plane, stride, w, h, x, y, mv, 16, 21, &mut out);
+    fetch_halo(plane, stride, w, h, x, y, mv, 16, 21, 21, &mut out);
     out
 }

@@ -11,18 +11,18 @@ use Rattle.signed.specs.Held.{par}
 use Rattle.rfc6386.specs.Picture.{image}
 use Rattle.rfc6386.specs.Block.{planeOf}
 use Rattle.rfc6386.specs.Laws.Raster.{row-fits}
-use Rattle.prediction.specs.Places.{clampedSquare}
+use Rattle.prediction.specs.Places.{clampedRect}
 use Rattle.prediction.proofs.Copying.{Writing, writing-none, writing-all}
 use Rattle.prediction.proofs.Squares.{near-as, in-plane, clamped-more}
 use Rattle.prediction.proofs.square.clamped.Statement.{statement}
 use Rattle.prediction.proofs.square.clamped.Tie as tie
 
 abbrev Inv-loop : tie.InvT-loop
-Inv-loop plane stride w h x0 y0 n out₀ r₀ out r =
-    Writing out₀ n 0 0 n n (λ r c. image (planeOf plane stride w h) (toZ w64 x0 +ℤ pos c) (toZ w64 y0 +ℤ pos r)) out r
+Inv-loop plane stride w h x0 y0 cols rows out₀ r₀ out r =
+    Writing out₀ cols 0 0 cols rows (λ r c. image (planeOf plane stride w h) (toZ w64 x0 +ℤ pos c) (toZ w64 y0 +ℤ pos r)) out r
 
 abbrev μ-loop : tie.MeasureT-loop
-μ-loop plane stride w h x0 y0 n out₀ r₀ out r = n - r
+μ-loop plane stride w h x0 y0 cols rows out₀ r₀ out r = rows - r
 
 clamp-at-requires : tie.Need-clamp-at-requires Inv-loop μ-loop
 clamp-at-requires c κs =
@@ -35,11 +35,11 @@ row : (c : tie.After-clamp-at Inv-loop μ-loop) →
     c .clamp-at .result * a .stride + a .w ≤ length (a .plane .now)
 row c = in-plane (c .before .before .before .before .before .pre .0) (c .clamp-at .result) (c .clamp-at .ensures .1)
 
--- and in the square
-room : (c : tie.In-loop Inv-loop μ-loop) → let a = c .before .before .before .before .args in c .before .loop .r * a .n + a .n ≤ length (a .out .now)
+-- and in the rectangle
+room : (c : tie.In-loop Inv-loop μ-loop) → let a = c .before .before .before .before .args in c .before .loop .r * a .cols + a .cols ≤ length (a .out .now)
 room c =
     let s = c .before .before .before .before in
-    omega (arith, row-fits (c .before .loop .r) (s .args .n) (s .args .n) (c .loop-test .taken), s .pre .1 .1)
+    omega (arith, row-fits (c .before .loop .r) (s .args .rows) (s .args .cols) (c .loop-test .taken), s .pre .1 .1 .1)
 
 clamped-row-requires : tie.Need-clamped-row-requires Inv-loop μ-loop
 clamped-row-requires c κs =
@@ -62,7 +62,7 @@ returns c =
     let s = c .before .before .before .before in
     let a = s .args in
     writing-all (c .before .loop .inv) (c .loop-test .left)
-    ∙ ap₂ (λ (x y : ℤ). clampedSquare (planeOf (a .plane .now) (a .stride) (a .w) (a .h)) x y (a .n) (a .out .now)) (toZ-ofZ (s .fits .x0)) (toZ-ofZ (s .fits .y0))
+    ∙ ap₂ (λ (x y : ℤ). clampedRect (planeOf (a .plane .now) (a .stride) (a .w) (a .h)) x y (a .cols) (a .rows) (a .out .now)) (toZ-ofZ (s .fits .x0)) (toZ-ofZ (s .fits .y0))
 
 pub clamped-spec : {M : Type 1} → statement M
 clamped-spec =

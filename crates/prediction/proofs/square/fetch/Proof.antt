@@ -41,7 +41,7 @@ held : (c : tie.Then2) → let a = entry c .args in
 held c = plain-held (entry c .pre .0) (from-x c) (from-y c)
 
 copy-rect-requires : tie.Need-copy-rect-requires
-copy-rect-requires c κs = let s = entry (c .before) in (square-room (s .pre .1 .0 .0) (s .pre .1 .1), held (c .before))
+copy-rect-requires c κs = let s = entry (c .before) in (square-room (s .pre .1 .0 .0) (s .pre .1 .1 .1), held (c .before))
 
 returns : tie.Need-returns
 returns c =
@@ -49,28 +49,28 @@ returns c =
     let t = call .before .before in
     let s = entry t in
     call .copy-rect .ensures
-    ∙ written-all (s .args .out .now) (s .args .n) (s .args .n) _ (s .pre .1 .1)
+    ∙ written-all (s .args .out .now) (s .args .n) (s .args .n) _ (s .pre .1 .1 .1)
     ∙ plain-is (s .pre .0) (from-x t) (from-y t)
 
 -- ---- some of it outside
 abbrev start : tie.After-wide → tie.Start
 start c = c .before .before .before .before .before
 
--- a square of `side` fits the room for it
-side-room : (c : tie.After-wide) → let n = start c .args .side in n * n ≤ 441
-side-room c = let l = start c .pre .1 .0 .2 in mul-le-mul {n₂ = 21} {m₂ = 21} l l
+-- what is clamped fits the room for it
+fits : (c : tie.After-wide) → let a = start c .args in a .rows * a .cols ≤ 441
+fits c = let s = start c in mul-le-mul {n₂ = 21} {m₂ = 21} (s .pre .1 .1 .0 .1) (s .pre .1 .0 .2)
 
 clamped-requires : tie.Need-clamped-requires
 clamped-requires c κs =
     let s = start c in
-    (source-as (x0 s) (y0 s) (s .pre .0), (s .pre .1 .0 .2, side-room c))
+    (source-as (x0 s) (y0 s) (s .pre .0), (s .pre .1 .0 .2, (s .pre .1 .1 .0 .1, fits c)))
 
 copy-rect-requires-2 : tie.Need-copy-rect-requires-2
 copy-rect-requires-2 c κs =
     let call = c .before .before .before in
     let s = start (call .before) in (
-      square-room (s .pre .1 .0 .0) (s .pre .1 .1),
-      λ r h. omega (arith, row-fits r (s .args .side) (s .args .side) (omega arith), side-room (call .before), call .clamped .kept .1 .1 .1 .1 .1 .1 .1 .0),
+      square-room (s .pre .1 .0 .0) (s .pre .1 .1 .1),
+      λ r h. omega (arith, row-fits r (s .args .rows) (s .args .cols) (omega arith), fits (call .before), call .clamped .kept .1 .1 .1 .1 .1 .1 .1 .1 .0),
     )
 
 returns-2 : tie.Need-returns-2
@@ -79,8 +79,8 @@ returns-2 c =
     let w = call .before .before .before .before in
     let s = start (w .before) in
     call .copy-rect2 .ensures
-    ∙ written-all (s .args .out .now) (s .args .n) (s .args .n) _ (s .pre .1 .1)
-    ∙ square-as (x0 s) (y0 s) _ _ (corner-is (plane s) (x0 s .val) (y0 s .val) (replicate 441 0) (s .pre .1 .0 .1) (side-room (w .before)) (w .clamped .ensures))
+    ∙ written-all (s .args .out .now) (s .args .n) (s .args .n) _ (s .pre .1 .1 .1)
+    ∙ square-as (x0 s) (y0 s) _ _ (corner-is (plane s) (x0 s .val) (y0 s .val) (replicate 441 0) (s .pre .1 .0 .1) (s .pre .1 .1 .0 .0) (fits (w .before)) (w .clamped .ensures))
 
 pub fetch-spec : {M : Type 1} → statement M
 fetch-spec =

@@ -41,7 +41,7 @@ fetch-requires c κs =
     let o = c .before in
     let s = o .before .before .before .before .before .before in (
       source-of (plane-accepts _ _ _ (s .pre .0)) (sub (x0 (o .before .before)) (lit 2 tt) tt) (sub (y0 o) (lit 2 tt) tt) (omega arith, omega arith, omega arith, omega arith),
-      ((omega arith, s .pre .1 .0 .1, s .pre .1 .0 .2), s .pre .1 .1),
+      ((omega arith, s .pre .1 .0 .1, s .pre .1 .0 .2), (s .pre .1 .1 .0, s .pre .1 .1 .1)),
     )
 
 returns : tie.Need-returns

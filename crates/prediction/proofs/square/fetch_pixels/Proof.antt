@@ -34,7 +34,7 @@ fetch-requires : tie.Need-fetch-requires
 fetch-requires c κs =
     let o = c .before in
     let s = o .before .before .before .before .before .before in
-    (source-of (plane-accepts _ _ _ (s .pre .0)) (x0 (o .before .before)) (y0 o) (omega arith, omega arith, omega arith, omega arith), (s .pre .1 .0, s .pre .1 .1))
+    (source-of (plane-accepts _ _ _ (s .pre .0)) (x0 (o .before .before)) (y0 o) (omega arith, omega arith, omega arith, omega arith), (s .pre .1 .0, (s .pre .1 .1 .0, s .pre .1 .1 .1)))
 
 returns : tie.Need-returns
 returns c = let o = c .before .before .before .before in square-as (x0 (o .before .before)) (y0 o) _ _ (c .before .before .fetch .ensures)
