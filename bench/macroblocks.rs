@@ -24,19 +24,7 @@ struct Input {
 }
 
 impl Input {
-    fn whole(title: &'static str, row: i16, col: i16, goal: f64) -> Input {
-        let vectors = Vectors::equal(row, col);
-        Input {
-            title,
-            form: Form::Whole,
-            place: Where::Inside,
-            vectors,
-            filter: 0,
-            goal: Some(goal),
-        }
-    }
-
-    fn split(title: &'static str, form: Form, vectors: Vectors, goal: Option<f64>) -> Input {
+    fn new(title: &'static str, form: Form, vectors: Vectors, goal: Option<f64>) -> Input {
         Input {
             title,
             form,
@@ -45,6 +33,10 @@ impl Input {
             filter: 0,
             goal,
         }
+    }
+
+    fn whole(title: &'static str, row: i16, col: i16, goal: f64) -> Input {
+        Input::new(title, Form::Whole, Vectors::equal(row, col), Some(goal))
     }
 
     fn calls<'a>(&self, picture: &'a Picture) -> [Call<'a>; PLACES] {
@@ -101,9 +93,9 @@ fn inputs() -> [Input; 9] {
             place: Where::LeftEdge,
             ..Input::whole("whole, at the picture's edge", 9, -7, 0.4)
         },
-        Input::split("split, mixed vectors", Form::Split, mixed(), Some(0.55)),
-        Input::split(SPLIT_EQUAL, Form::Split, equal, None),
-        Input::split(MERGING_EQUAL, Form::Merging, equal, None),
+        Input::new("split, mixed vectors", Form::Split, mixed(), Some(0.55)),
+        Input::new(SPLIT_EQUAL, Form::Split, equal, None),
+        Input::new(MERGING_EQUAL, Form::Merging, equal, None),
     ]
 }
 

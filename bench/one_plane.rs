@@ -5,7 +5,7 @@
 use crate::{turns, Case, PLACES, ROOM};
 use sides::one_plane::{self, Place};
 use sides::pictures::Picture;
-use sides::shims::{shim_fetch, shim_filter_block, shim_filter_block_into, shim_sixtap};
+use sides::shims;
 use sides::Mv;
 use std::hint::black_box;
 
@@ -55,22 +55,7 @@ fn fetched(picture: &Picture, side: u8, inside: bool) -> Case<'_> {
         format!("fetch of {side} x {side}, {place}"),
         places(picture, inside),
         samples,
-        move |p, out| unsafe {
-            shim_fetch(
-                side,
-                p.plane.as_ptr(),
-                p.plane.len(),
-                p.stride,
-                p.w,
-                p.h,
-                p.x,
-                p.y,
-                mv.row,
-                mv.col,
-                out.as_mut_ptr(),
-                samples,
-            )
-        },
+        move |p, out| unsafe { shims::fetch(side, *p, mv, out.as_mut_ptr()) },
         move |p, out| one_plane::fetch_to(side, *p, mv, out),
     )
 }
@@ -84,16 +69,7 @@ fn filtered<'a>(picture: &'a Picture, width: u8, name: &str, at: Fractions) -> C
         halos,
         samples,
         move |halo, out| unsafe {
-            shim_sixtap(
-                width,
-                halo.as_ptr(),
-                halo.len(),
-                at.mx,
-                at.my,
-                at.filter,
-                out.as_mut_ptr(),
-                samples,
-            )
+            shims::sixtap(width, halo, at.mx, at.my, at.filter, out.as_mut_ptr())
         },
         move |halo, out| one_plane::sixtap_to(width, halo, at.mx, at.my, at.filter, out),
     )
@@ -126,53 +102,20 @@ fn block(picture: &Picture) -> Case<'_> {
         "filter_block_4x4".into(),
         places(picture, true),
         16,
-        move |p, out| unsafe {
-            shim_filter_block(
-                p.plane.as_ptr(),
-                p.plane.len(),
-                p.stride,
-                p.w,
-                p.h,
-                p.x,
-                p.y,
-                mv.row,
-                mv.col,
-                0,
-                out.as_mut_ptr(),
-                16,
-            )
-        },
+        move |p, out| unsafe { shims::filter_block(*p, mv, 0, out.as_mut_ptr()) },
         move |p, out| one_plane::filter_block_to(*p, mv, 0, out),
     )
 }
 
 fn block_into(picture: &Picture) -> Case<'_> {
     let mv = Mv { row: 10, col: -6 };
-    let (stride, x, y) = (16, 4, 8);
+    let (stride, to) = (16, (4, 8));
     case(
         "filter_block_4x4_into".into(),
         places(picture, true),
         256,
-        move |p, out| unsafe {
-            shim_filter_block_into(
-                out.as_mut_ptr(),
-                256,
-                stride,
-                x,
-                y,
-                p.plane.as_ptr(),
-                p.plane.len(),
-                p.stride,
-                p.w,
-                p.h,
-                p.x,
-                p.y,
-                mv.row,
-                mv.col,
-                0,
-            )
-        },
-        move |p, out| one_plane::filter_block_into(out, stride, (x, y), *p, mv, 0),
+        move |p, out| shims::filter_block_into(out, stride, to, *p, mv, 0),
+        move |p, out| one_plane::filter_block_into(out, stride, to, *p, mv, 0),
     )
 }
 

@@ -9,7 +9,7 @@ use crate::tally::{differing, written, Outcome, Tally};
 use sides::one_plane::{self, Place};
 use sides::pictures::{Picture, Shows};
 use sides::random::Random;
-use sides::shims::*;
+use sides::shims::{self, shim_interp, shim_split_chroma, shim_vector, shim_whole_pixel};
 use sides::{Call, Form, Mv, Vectors, SAMPLES};
 use Pick::{Is, Limit};
 
@@ -110,7 +110,7 @@ fn sixtap<const HALO: usize>(width: u8, calls: usize, random: &mut Random) -> Ta
             one_plane::sixtap(width, &halo, mx, my, filter)
         };
         let outcome = written(5 * u32::from(refused), &due, |out| unsafe {
-            shim_sixtap(width, halo.as_ptr(), HALO, mx, my, filter, out, samples)
+            shims::sixtap(width, &halo, mx, my, filter, out)
         });
         tally.add(outcome, || {
             format!("fractions {mx} {my}, filter {filter}, {halo:?}")
@@ -324,10 +324,7 @@ fn fetch(side: u8, random: &mut Random) -> Tally {
             vec![0; samples]
         };
         let outcome = written(number, &due, |out| unsafe {
-            let (plane, len) = (p.plane.as_ptr(), p.plane.len());
-            shim_fetch(
-                side, plane, len, p.stride, p.w, p.h, p.x, p.y, c.mv.row, c.mv.col, out, samples,
-            )
+            shims::fetch(side, p, c.mv, out)
         });
         tally.add(outcome, || plane_words(c));
     });
@@ -345,10 +342,7 @@ fn filter_block(random: &mut Random) -> Tally {
             vec![0; 16]
         };
         let outcome = written(number, &due, |out| unsafe {
-            let (plane, len) = (p.plane.as_ptr(), p.plane.len());
-            shim_filter_block(
-                plane, len, p.stride, p.w, p.h, p.x, p.y, c.mv.row, c.mv.col, c.filter, out, 16,
-            )
+            shims::filter_block(p, c.mv, c.filter, out)
         });
         tally.add(outcome, || plane_words(c));
     });
@@ -376,7 +370,8 @@ fn filter_block_into(random: &mut Random) -> Tally {
             let to = (c.dst_x, c.dst_y - row);
             one_plane::filter_block_into(&mut due, c.dst_stride, to, c.place, c.mv, c.filter);
         }
-        let given = unsafe { into(c, &mut got[..length]) };
+        let (dst, to) = (&mut got[..length], (c.dst_x, c.dst_y));
+        let given = shims::filter_block_into(dst, c.dst_stride, to, c.place, c.mv, c.filter);
         let wrong_samples = differing(&got[window], &due);
         let outcome = Outcome {
             number: given,
@@ -394,16 +389,6 @@ fn filter_block_into(random: &mut Random) -> Tally {
 fn window(c: &OnPlane, length: usize) -> std::ops::Range<usize> {
     let first = c.dst_y.saturating_sub(1);
     first * c.dst_stride..length.min((c.dst_y + 5) * c.dst_stride)
-}
-
-unsafe fn into(c: &OnPlane, dst: &mut [u8]) -> u32 {
-    let p = c.place;
-    #[rustfmt::skip]
-    let number = shim_filter_block_into(
-        dst.as_mut_ptr(), dst.len(), c.dst_stride, c.dst_x, c.dst_y,
-        p.plane.as_ptr(), p.plane.len(), p.stride, p.w, p.h, p.x, p.y, c.mv.row, c.mv.col, c.filter,
-    );
-    number
 }
 
 // ---- Whole pixels ----
