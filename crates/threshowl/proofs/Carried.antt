@@ -1,0 +1,203 @@
+-- Demand 3, carried to the C functions: the number and the 384 bytes that their contracts allow. Assumes nothing.
+use mathlib.Core.Path.{_≡_, refl, sym, ap, ap₂, _∙_}
+use mathlib.Core.Logic.{_↔_}
+use mathlib.Core.Bool.{Bool, true, false, cond}
+use mathlib.Core.List.{List, [], _∷_, _++_}
+use Prim.Native.Nat.{ℕ, _+_, _-_, _*_, _/_, _%_, _<_, _≤_}
+use native.Mathlib.Omega.{arith}
+use lib.ListN.{length, getD, replicate, length-replicate, getD-replicate, List·getD-append}
+use lib.Seq.{getD-append-add}
+use lib.IntN.{ℤ, pos, negsuc}
+use borrow.Author.Tests.{le-ltb}
+use mir.Syntax.{w16}
+use mir.Val.{SFits}
+use Rattle.signed.specs.Int.{int, range, diff}
+use Rattle.rfc6386.specs.Number.{floorMod, wrap16}
+use Rattle.rfc6386.specs.Vector.{Lowering, fullPixel, lumaVector, chromaVector, mergeable}
+use Rattle.rfc6386.specs.Raster.{tab}
+use Rattle.rfc6386.specs.Picture.{image, blockBy}
+use Rattle.rfc6386.specs.Refusal.{orElse, ifDone}
+use Rattle.rfc6386.specs.Macroblock.{Reference, planeY, planeU, refusal, wholeSamples, splitSamples, noSamples, answered, whole, split}
+use Rattle.rfc6386.specs.Telling.{sixteen, tellingSample}
+use Rattle.rfc6386.specs.Carried.{Place, lentAt, OfTypes, tellingPlace, telling-typed, results-agree, results-differ}
+use Rattle.rfc6386.specs.Laws.Vectors.{vector, wrap-in, wrap-high}
+use Rattle.rfc6386.specs.Laws.Raster.{length-tab, getD-tab, is-tab, length-raster}
+use Rattle.rfc6386.specs.Laws.Refusals.{done}
+use Rattle.rfc6386.specs.Laws.Blocks.{length-block}
+use Rattle.rfc6386.specs.Laws.Merging.{zeros-bytes}
+use Rattle.threshowl.specs.Boundary.{setOf, flagOf, codeRefusal, codesRefusal, vectorAt, vectorsOf, int16, flat, roomRefusal, callNumber, Left}
+use Rattle.threshowl.proofs.Laws.{left-as, codes-as, one-outcome}
+use Rattle.rfc6386.specs.declared.Mv.{Mv}
+use Rattle.rfc6386.specs.declared.FilterSet.{FilterSet}
+use Rattle.rfc6386.specs.declared.ReconstructedMb.{ReconstructedMb}
+use Rattle.rfc6386.specs.declared.Prediction.{Prediction}
+
+-- ---- a vector sixteen times, as 64 bytes
+-- a component as the sixteen bits that hold it: its low byte, and its high one
+abbrev pub lowByte : ℤ → ℕ
+lowByte z = floorMod z 65536 % 256
+
+abbrev pub highByte : ℤ → ℕ
+highByte z = floorMod z 65536 / 256
+
+abbrev pub spelled : Mv → List ℕ
+spelled v = lowByte (v .row) ∷ highByte (v .row) ∷ lowByte (v .col) ∷ highByte (v .col) ∷ []
+
+abbrev pub sixteenSpelled : Mv → List ℕ
+sixteenSpelled v = tab 64 (λ i. getD (spelled v) (i % 4) 0)
+
+component : (z : ℤ) → SFits w16 z → int16 (lowByte z) (highByte z) ≡ z
+component (pos a) f =
+    let e : lowByte (pos a) + 256 * highByte (pos a) ≡ a = omega (int, range f) in
+    ap (λ (n : ℕ). wrap16 (pos n)) e ∙ wrap-in (pos a) (omega (int, range f)) (omega arith)
+component (negsuc a) f =
+    let n = 65535 - a in
+    let e : lowByte (negsuc a) + 256 * highByte (negsuc a) ≡ n = omega (int, range f) in
+    ap (λ (n : ℕ). wrap16 (pos n)) e ∙ wrap-high (pos n) (omega (int, range f)) (omega arith) ∙ omega (int, range f, diff (pos n) (pos 65536))
+
+module _ (v : Mv) (fr : SFits w16 (v .row)) (fc : SFits w16 (v .col)) where
+  at : (i j : ℕ) → i < 16 → j < 4 → getD (sixteenSpelled v) (4 * i + j) 0 ≡ getD (spelled v) j 0
+  at i j h k =
+      let e : (4 * i + j) % 4 ≡ j = omega arith in
+      getD-tab 64 (λ i. getD (spelled v) (i % 4) 0) (4 * i + j) 0 (omega arith) ∙ ap (λ (n : ℕ). getD (spelled v) n 0) e
+
+  first : (i : ℕ) → i < 16 → getD (sixteenSpelled v) (4 * i) 0 ≡ lowByte (v .row)
+  first i h = let e : 4 * i ≡ 4 * i + 0 = omega arith in ap (λ (n : ℕ). getD (sixteenSpelled v) n 0) e ∙ at i 0 h (omega arith)
+
+  vector-is : (i : ℕ) → i < 16 → vectorAt (sixteenSpelled v) i ≡ v
+  vector-is i h =
+      vector (ap₂ int16 (first i h) (at i 1 h (omega arith)) ∙ component (v .row) fr)
+      (ap₂ int16 (at i 2 h (omega arith)) (at i 3 h (omega arith)) ∙ component (v .col) fc)
+
+  -- THEOREM. Read back, those bytes are the vector sixteen times.
+  pub spelled-is : vectorsOf (sixteenSpelled v) ≡ sixteen v
+  unfolding vectorsOf
+  spelled-is =
+      sym (is-tab v 16 (vectorAt (sixteenSpelled v)) (sixteen v) (length-replicate 16 v) (λ i h. getD-replicate 16 i v v h ∙ sym (vector-is i h)))
+
+-- ---- what the contracts allow: the number r and the final bytes out′ of an output that held out
+-- of threshowl_predict_whole
+abbrev pub WholeLeaves : ℕ → ℕ → Place → Mv → List ℕ → ℕ → List ℕ → Type 0
+WholeLeaves filter flag p v out r out′ =
+    Left (whole (setOf filter) (fullPixel (flagOf flag)) (lentAt p) (p .col) (p .row) v) (codeRefusal filter) out r out′
+
+-- and of threshowl_predict_split, or threshowl_predict_merging
+abbrev pub SplitLeaves : ℕ → ℕ → Place → List ℕ → List ℕ → ℕ → List ℕ → Type 0
+SplitLeaves filter flag p vectors out r out′ =
+    Left (split (setOf filter) (fullPixel (flagOf flag)) (lentAt p) (p .col) (p .row) (vectorsOf vectors)) (codesRefusal filter (length vectors)) out r out′
+
+-- ---- demand 3
+-- two calls that are done, and differ in byte i of 384
+pub record Unlike (r s : ℕ) (a b : List ℕ) (i : ℕ) : Type 0 where
+  pub first-done : r ≡ 0
+  pub second-done : s ≡ 0
+  pub inside : i < 384
+  pub differ : getD a i 0 ≡ getD b i 0 → ⊥
+
+-- a call's number and bytes where nothing refuses it
+module _ (p : Prediction) (codes : ℕ) (out : List ℕ) (r : ℕ) (out′ : List ℕ) (e : p .number ≡ 0) (c : codes ≡ 0) (room : length out ≡ 384) (L : Left p codes out r out′) where
+  none : callNumber p codes out ≡ 0
+  none = (λ i. orElse (e i) (orElse (c i) (roomRefusal (room i))))
+
+  number-zero : r ≡ 0
+  number-zero = L .number-is ∙ none
+
+  u-byte : (i : ℕ) → length (p .samples .y) ≡ 256 → i < length (p .samples .u) → getD out′ (256 + i) 0 ≡ getD (p .samples .u) i 0
+  u-byte i h k =
+      let s = p .samples in
+      ap (λ (l : List ℕ). getD l (256 + i) 0) (L .bytes-are ∙ done (flat s) out none)
+      ∙ ap (λ (n : ℕ). getD (flat s) (n + i) 0) (sym h)
+      ∙ getD-append-add (s .y) (s .u ++ s .v) i 0
+      ∙ List·getD-append (s .u) (s .v) 0 i k
+
+-- what the definition itself leaves
+leaves : (p : Prediction) (codes : ℕ) (out : List ℕ) → Left p codes out (callNumber p codes out) (ifDone (callNumber p codes out) (flat (p .samples)) out)
+leaves p codes out = record { number-is = refl; bytes-are = refl }
+
+-- the samples of an accepted prediction: 256 of Y before 64 of U
+record Counted (p : Prediction) : Type 0 where
+  y : length (p .samples .y) ≡ 256
+  u : length (p .samples .u) ≡ 64
+
+counted : (n : ℕ) (s : ReconstructedMb) → n ≡ 0 → length (s .y) ≡ 256 → length (s .u) ≡ 64 → Counted (answered n s)
+unfolding answered
+counted n s e h k =
+    let d = done s noSamples e in
+    record { y = ap (λ (m : ReconstructedMb). length (m .y)) d ∙ h; u = ap (λ (m : ReconstructedMb). length (m .u)) d ∙ k }
+
+module _ (set : FilterSet) (low : Lowering) (ref : Reference) (col row : ℕ) where
+  whole-counted : (v : Mv) → whole set low ref col row v .number ≡ 0 → Counted (whole set low ref col row v)
+  unfolding whole answered wholeSamples
+  whole-counted v e =
+      counted (refusal ref col row) (wholeSamples set low ref col row v) e
+      (length-block 16 set (image (planeY ref)) (col * 16) (row * 16) (lumaVector low v)) (length-block 8 set (image (planeU ref)) (col * 8) (row * 8) (chromaVector low v))
+
+  split-counted : (vs : List Mv) → split set low ref col row vs .number ≡ 0 → Counted (split set low ref col row vs)
+  unfolding split answered splitSamples blockBy
+  split-counted vs e = counted (refusal ref col row) (splitSamples set low ref col row vs) e (length-raster 16 16 _) (length-raster 8 8 _)
+
+module _ (filter flag : ℕ) (v : Mv) (fr : SFits w16 (v .row)) (fc : SFits w16 (v .col)) where
+  -- split's contract for the 64 bytes is its contract for the vector sixteen times
+  spelled-out : (p : Place) (out : List ℕ) (r : ℕ) (out′ : List ℕ) → SplitLeaves filter flag p (sixteenSpelled v) out r out′
+      → Left (split (setOf filter) (fullPixel (flagOf flag)) (lentAt p) (p .col) (p .row) (sixteen v)) (codeRefusal filter) out r out′
+  spelled-out p out r out′ L =
+      left-as (ap (split (setOf filter) (fullPixel (flagOf flag)) (lentAt p) (p .col) (p .row)) (spelled-is v fr fc))
+      (sym (codes-as filter (length (sixteenSpelled v)) (length-tab 64 _))) L
+
+  -- THEOREM (inside). One call with the vector and one with its bytes sixteen times leave the same number and the same bytes, whatever they are
+  -- lent, refused or not.
+  pub outputs-agree : mergeable v ≡ true → (p : Place) (out : List ℕ) (r s : ℕ) (a b : List ℕ)
+      → WholeLeaves filter flag p v out r a → SplitLeaves filter flag p (sixteenSpelled v) out s b → (r ≡ s) × (a ≡ b)
+  outputs-agree e p out r s a b L M =
+      one-outcome (left-as (results-agree (setOf filter) (fullPixel (flagOf flag)) v e p _ _ refl refl) refl L) (spelled-out p out s b M)
+
+  -- THEOREM (outside). For each other vector, with a filter code that is not refused and an output of 384 bytes, both calls are done on
+  -- `tellingPlace v`, and differ in byte 256 + `tellingSample v`: that sample of U.
+  pub outputs-differ : mergeable v ≡ false → filter ≤ 1 → (out : List ℕ) → length out ≡ 384 → (r s : ℕ) (a b : List ℕ)
+      → WholeLeaves filter flag (tellingPlace v) v out r a → SplitLeaves filter flag (tellingPlace v) (sixteenSpelled v) out s b
+      → Unlike r s a b (256 + tellingSample v)
+  outputs-differ e code out room r s a b L M =
+      let p = tellingPlace v in
+      let set = setOf filter in
+      let low = fullPixel (flagOf flag) in
+      let w = whole set low (lentAt p) 0 0 v in
+      let t = split set low (lentAt p) 0 0 (sixteen v) in
+      let D = results-differ set low v fr fc e w t refl refl in
+      let c : codeRefusal filter ≡ 0 = ap (λ (x : Bool). cond x 5 0) (le-ltb 1 filter code) in
+      let N = spelled-out p out s b M in
+      let W = whole-counted set low (lentAt p) 0 0 v (D .first-accepted) in
+      let S = split-counted set low (lentAt p) 0 0 (sixteen v) (D .second-accepted) in
+      let i = tellingSample v in
+      record {
+        first-done = number-zero w (codeRefusal filter) out r a (D .first-accepted) c room L;
+        second-done = number-zero t (codeRefusal filter) out s b (D .second-accepted) c room N;
+        inside = omega (arith, D .in-u);
+        differ = λ same.
+            D .differ
+            (sym (u-byte w (codeRefusal filter) out r a (D .first-accepted) c room L i (W .y) (omega (arith, D .in-u, W .u)))
+            ∙ same
+            ∙ u-byte t (codeRefusal filter) out s b (D .second-accepted) c room N i (S .y) (omega (arith, D .in-u, S .u)));
+      }
+
+  -- THEOREM (demand 3, of the C functions). They leave the same on every picture and position, and in every output, exactly where both
+  -- components lie in -16384 .. 16383.
+  pub outputs-agree-exactly : filter ≤ 1
+      → ((p : Place) → OfTypes p → (out : List ℕ) → ((i : ℕ) → getD out i 0 ≤ 255) → (r s : ℕ) (a b : List ℕ)
+      → WholeLeaves filter flag p v out r a → SplitLeaves filter flag p (sixteenSpelled v) out s b → (r ≡ s) × (a ≡ b))
+      ↔ (mergeable v ≡ true)
+  outputs-agree-exactly code = (λ same. at same (mergeable v) refl, λ e p t out h. outputs-agree e p out)
+    where
+      at : ((p : Place) → OfTypes p → (out : List ℕ) → ((i : ℕ) → getD out i 0 ≤ 255) → (r s : ℕ) (a b : List ℕ)
+          → WholeLeaves filter flag p v out r a → SplitLeaves filter flag p (sixteenSpelled v) out s b → (r ≡ s) × (a ≡ b))
+          → (x : Bool) → mergeable v ≡ x → x ≡ true
+      at same true e = refl
+      at same false e =
+          let p = tellingPlace v in
+          let out : List ℕ = replicate 384 0 in
+          let w = whole (setOf filter) (fullPixel (flagOf flag)) (lentAt p) (p .col) (p .row) v in
+          let t = split (setOf filter) (fullPixel (flagOf flag)) (lentAt p) (p .col) (p .row) (vectorsOf (sixteenSpelled v)) in
+          let L = leaves w (codeRefusal filter) out in
+          let M = leaves t (codesRefusal filter (length (sixteenSpelled v))) out in
+          absurd
+          (outputs-differ e code out refl _ _ _ _ L M .differ
+          (ap (λ (l : List ℕ). getD l (256 + tellingSample v) 0) (same p (telling-typed v) out (zeros-bytes 384) _ _ _ _ L M .1)))
