@@ -5,6 +5,7 @@
 #   make demo               build library and host, run it, write its pictures
 #   make demo-check         the same, and compare what it prints; also as C++17
 #   make check              the gate
+#   make mirror             flip pictures and vectors, and compare the answers
 #   make oracle RUST=SRC    compare with the original Rust in folder SRC
 #   make bench RUST=SRC     time both in one run on this processor; bench/count
 #                           counts x86-64 instructions
@@ -48,7 +49,7 @@ AS_CXX = $(CXX) -std=c++17 $(WARNINGS) -O2
 HOST = examples/lamp_panel.c
 EXPECTED = examples/lamp_panel.expected
 
-.PHONY: demo demo-check check oracle bench install install-check clean tools rust-named FORCE
+.PHONY: demo demo-check check mirror oracle bench install install-check clean tools rust-named FORCE
 
 demo: target/demo/lamp_panel
 	$(EMULATOR) target/demo/lamp_panel target/demo
@@ -62,6 +63,9 @@ demo-check: target/demo/lamp_panel target/demo/lamp_panel_cxx
 
 check:
 	bash .ci/run
+
+mirror: target/mirror/mirror
+	$(EMULATOR) target/mirror/mirror $(SEED)
 
 oracle: rust-named $(ARCHIVE) $(SHIMS)
 	tests/oracle/run "$(RUST)" "$(ARCHIVE)" $(SHIMS)
@@ -96,6 +100,10 @@ target/demo/lamp_panel: $(HOST) include/threshowl.h $(ARCHIVE) | tools
 target/demo/lamp_panel_cxx: $(HOST) include/threshowl.h $(ARCHIVE) | tools
 	mkdir -p target/demo
 	$(AS_CXX) -Iinclude -x c++ $(HOST) -x none "$(ARCHIVE)" $(LDLIBS) -o $@
+
+target/mirror/mirror: tests/mirror/mirror.c include/threshowl.h $(ARCHIVE) | tools
+	mkdir -p target/mirror
+	$(AS_C) -Iinclude tests/mirror/mirror.c "$(ARCHIVE)" $(LDLIBS) -o $@
 
 tools:
 	tools/x86-64-tools

@@ -161,7 +161,7 @@ black = columnsOf (λ c. 0)
 abbrev pub lit : ℕ → Reference
 lit q = columnsOf (λ c. cond (eqb c q) 255 0)
 
-three-accepted : (f : ℕ → ℕ) → refusal (columnsOf f) 1 0 ≡ 0
+pub three-accepted : (f : ℕ → ℕ) → refusal (columnsOf f) 1 0 ≡ 0
 three-accepted f =
     zero-for (columnsOf f) 1 0
     (record {
@@ -176,7 +176,7 @@ three-accepted f =
       row-inside = omega arith;
     })
 
-columns-image : (f : ℕ → ℕ) → image (planeIn luma (columnsOf f)) ≡ (λ a b. f (clamped a 48))
+pub columns-image : (f : ℕ → ℕ) → image (planeIn luma (columnsOf f)) ≡ (λ a b. f (clamped a 48))
 unfolding image
 columns-image f = fun-ext (λ a. fun-ext (λ b. getD-raster 16 48 (λ r c. f c) (clamped b 16) (clamped a 48) (omega (arith, clamped-is b 16)) (omega (arith, clamped-is a 48))))
 
