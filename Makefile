@@ -6,10 +6,14 @@
 #   make demo-check         the same, and compare what it prints; also as C++17
 #   make check              the gate
 #   make mirror             flip pictures and vectors, and compare the answers
+#   make programs           the programs for people, in target/programs
+#   make tools-check        build them, and try each on small files
+#   make ivf-evidence       mending at scale, on made and on real recordings
+#   make ivf-bench          its time beside that of copying
 #   make oracle RUST=SRC    compare with the original Rust in folder SRC
 #   make bench RUST=SRC     time both in one run on this processor; bench/count
 #                           counts x86-64 instructions
-#   make install PREFIX=DIR header, library and pkg-config file
+#   make install PREFIX=DIR header, library, pkg-config file and programs
 #   make install-check      install into target/ and build the host from there
 #   make clean              remove target/, what is proved included
 #
@@ -50,6 +54,7 @@ HOST = examples/lamp_panel.c
 EXPECTED = examples/lamp_panel.expected
 
 .PHONY: demo demo-check check mirror oracle bench install install-check clean tools rust-named FORCE
+.PHONY: programs tools-check ivf-evidence ivf-bench
 
 demo: target/demo/lamp_panel
 	$(EMULATOR) target/demo/lamp_panel target/demo
@@ -67,18 +72,40 @@ check:
 mirror: target/mirror/mirror
 	$(EMULATOR) target/mirror/mirror $(SEED)
 
+# A program NAME is programs/NAME.c, its page programs/NAME.1, its trial programs/NAME.test.
+PROGRAMS = mend
+BUILT = $(PROGRAMS:%=target/programs/%)
+
+programs: $(BUILT)
+
+tools-check: $(PROGRAMS:%=try-%)
+
+try-%: target/programs/% FORCE
+	EMULATOR="$(EMULATOR)" sh programs/$*.test target/programs/$*
+
+ivf-evidence: $(ARCHIVE) target/programs/mend
+	CC="$(AS_C)" EMULATOR="$(EMULATOR)" tests/ivf/run "$(ARCHIVE)" target/programs/mend
+
+ivf-bench: $(ARCHIVE) | tools
+	mkdir -p target/bench
+	$(AS_C) -Iinclude bench/ivf.c "$(ARCHIVE)" $(LDLIBS) -o target/bench/ivf
+	$(EMULATOR) target/bench/ivf
+
 oracle: rust-named $(ARCHIVE) $(SHIMS)
 	tests/oracle/run "$(RUST)" "$(ARCHIVE)" $(SHIMS)
 
 bench: rust-named $(BENCHED)
 	bench/run "$(RUST)" $(BENCHED)
 
-install: $(ARCHIVE)
+install: $(ARCHIVE) $(BUILT)
 	$(INSTALL) -d "$(DESTDIR)$(PREFIX)/include" "$(DESTDIR)$(PREFIX)/lib/pkgconfig"
 	$(INSTALL) -m 644 include/threshowl.h "$(DESTDIR)$(PREFIX)/include/threshowl.h"
 	$(INSTALL) -m 644 "$(ARCHIVE)" "$(DESTDIR)$(PREFIX)/lib/libthreshowl.a"
 	sed -e 's|@PREFIX@|$(PREFIX)|' -e 's|@VERSION@|$(VERSION)|' threshowl.pc.in \
 	    >"$(DESTDIR)$(PREFIX)/lib/pkgconfig/threshowl.pc"
+	$(INSTALL) -d "$(DESTDIR)$(PREFIX)/bin" "$(DESTDIR)$(PREFIX)/share/man/man1"
+	$(INSTALL) $(BUILT) "$(DESTDIR)$(PREFIX)/bin"
+	$(INSTALL) -m 644 $(PROGRAMS:%=programs/%.1) "$(DESTDIR)$(PREFIX)/share/man/man1"
 
 INSTALLED = $(CURDIR)/target/installed
 
@@ -104,6 +131,10 @@ target/demo/lamp_panel_cxx: $(HOST) include/threshowl.h $(ARCHIVE) | tools
 target/mirror/mirror: tests/mirror/mirror.c include/threshowl.h $(ARCHIVE) | tools
 	mkdir -p target/mirror
 	$(AS_C) -Iinclude tests/mirror/mirror.c "$(ARCHIVE)" $(LDLIBS) -o $@
+
+target/programs/%: programs/%.c include/threshowl.h $(ARCHIVE) | tools
+	mkdir -p target/programs
+	$(AS_C) -Iinclude $< "$(ARCHIVE)" $(LDLIBS) -o $@
 
 tools:
 	tools/x86-64-tools

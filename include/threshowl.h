@@ -154,6 +154,49 @@ uint32_t threshowl_predict_merging(
     uint8_t filter, uint8_t full_pixel,
     uint8_t *out, size_t out_len);
 
+/*
+ * Recordings
+ *
+ * A link that drops leaves an IVF file with a partial last frame, and a count
+ * of frames that was never filled in.  threshowl_ivf_mend makes a whole file of
+ * it: the header and every complete frame, with the number of these frames as
+ * its count.
+ *
+ * file    the recording, file_len bytes: a header of 32 bytes (DKIF in bytes 0
+ *         to 3, its own length in 6 and 7, the count of frames in 24 to 27), then
+ *         the frames, each a size in 4 bytes, a time in 8, and so many bytes of
+ *         data.  Numbers are little-endian.
+ * out     file_len bytes are always enough.
+ *
+ * With 0 the first file_len - *dropped bytes of out are the mended file.  Save
+ * for the four bytes of the count they are those of file, and the bytes of out
+ * after them are as they were.  A frame of size 0 is complete.  *old_count is
+ * the count that the header had, *new_count the one that it has now.  A mended
+ * file that is mended again comes back as it is.
+ *
+ * With any other number not one byte of out is changed, and the three numbers
+ * are set to 0:
+ *
+ *   15 (THRESHOWL_NOT_IVF)   file_len is below 32 or above 2147483647, the mark
+ *                            is not DKIF, or the header's length is not 32.
+ *   7 (THRESHOWL_BAD_OUT)    else, out_len is below what is kept.
+ *
+ * No pointer is NULL.  What is written, out and the three numbers, overlaps
+ * nothing else that is handed over.
+ */
+enum {
+    THRESHOWL_NOT_IVF = 15
+};
+
+#define THRESHOWL_IVF_HEADER_LEN 32
+#define THRESHOWL_IVF_FRAME_HEADER_LEN 12
+#define THRESHOWL_IVF_LIMIT 2147483647
+
+uint32_t threshowl_ivf_mend(
+    const uint8_t *file, size_t file_len,
+    uint8_t *out, size_t out_len,
+    uint64_t *old_count, uint64_t *new_count, uint64_t *dropped);
+
 #ifdef __cplusplus
 }
 #endif

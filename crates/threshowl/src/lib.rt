@@ -5,5 +5,6 @@ mod listed;
 pub mod lists;
 mod output;
 pub mod planes;
+pub mod recordings;
 mod refusals;
 mod vectors;
