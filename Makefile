@@ -8,6 +8,7 @@
 #   make mirror             flip pictures and vectors, and compare the answers
 #   make programs           the programs for people, in target/programs
 #   make tools-check        build them, and try each on small files
+#   make freestanding       link a host that has no C library, and run it
 #   make ivf-evidence       mending at scale, on made and on real recordings
 #   make ivf-bench          its time beside that of copying
 #   make oracle RUST=SRC    compare with the original Rust in folder SRC
@@ -52,9 +53,10 @@ AS_C = $(CC) -std=c11 $(WARNINGS) -Wstrict-prototypes -Wmissing-prototypes -O2
 AS_CXX = $(CXX) -std=c++17 $(WARNINGS) -O2
 HOST = examples/lamp_panel.c
 EXPECTED = examples/lamp_panel.expected
+FREESTANDING = tests/freestanding/host.c
 
 .PHONY: demo demo-check check mirror oracle bench install install-check clean tools rust-named FORCE
-.PHONY: programs tools-check ivf-evidence ivf-bench
+.PHONY: programs tools-check freestanding ivf-evidence ivf-bench
 
 demo: target/demo/lamp_panel
 	$(EMULATOR) target/demo/lamp_panel target/demo
@@ -82,6 +84,12 @@ tools-check: $(PROGRAMS:%=try-%)
 
 try-%: target/programs/% FORCE
 	EMULATOR="$(EMULATOR)" sh programs/$*.test target/programs/$*
+
+# The host calls each function of the header.
+freestanding: target/freestanding/host
+	@for f in $$(grep -o 'threshowl_[a-z0-9_]*(' include/threshowl.h); do \
+	    grep -qF "$$f" $(FREESTANDING) || { echo "$(FREESTANDING) does not call $$f)" >&2; exit 1; }; done
+	$(EMULATOR) target/freestanding/host
 
 ivf-evidence: $(ARCHIVE) target/programs/mend
 	CC="$(AS_C)" EMULATOR="$(EMULATOR)" tests/ivf/run "$(ARCHIVE)" target/programs/mend
@@ -127,6 +135,11 @@ target/demo/lamp_panel: $(HOST) include/threshowl.h $(ARCHIVE) | tools
 target/demo/lamp_panel_cxx: $(HOST) include/threshowl.h $(ARCHIVE) | tools
 	mkdir -p target/demo
 	$(AS_CXX) -Iinclude -x c++ $(HOST) -x none "$(ARCHIVE)" $(LDLIBS) -o $@
+
+target/freestanding/host: $(FREESTANDING) include/threshowl.h $(ARCHIVE) | tools
+	mkdir -p target/freestanding
+	$(AS_C) -ffreestanding -fno-stack-protector -nostdlib -static -Iinclude $(FREESTANDING) \
+	    -Wl,--whole-archive "$(ARCHIVE)" -Wl,--no-whole-archive -o $@
 
 target/mirror/mirror: tests/mirror/mirror.c include/threshowl.h $(ARCHIVE) | tools
 	mkdir -p target/mirror

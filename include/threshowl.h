@@ -2,9 +2,9 @@
  * threshowl.h: VP8 inter prediction of one macroblock, for C11 and C++17.
  *
  * Three functions predict a macroblock from a reference picture: whole (one
- * vector), split (sixteen vectors) and merging (sixteen vectors, fetched as
- * one macroblock wherever no picture could show it).  Link libthreshowl.a;
- * nothing else is needed.
+ * vector), split (sixteen vectors) and merging (sixteen vectors, taken for one
+ * where all are equal and no picture could tell).  Link libthreshowl.a.  It
+ * needs two symbols of the host, memcpy and memset as C has them, and no others.
  *
  *
  * The reference picture
@@ -14,17 +14,17 @@
  * mb_rows * 8 samples each.  y_stride and uv_stride are the bytes from one row
  * to the next, at least the plane's width and at most 32768.  y_len, u_len and
  * v_len are the bytes that each plane has: (height - 1) * stride + width are
- * needed, and more do no harm.  Bytes between width and stride, and beyond the
- * last sample, alter nothing.  A sample sought outside the picture is that of
- * the nearest edge.
+ * needed, and more do no harm.  What stands past the end of a row, or after the
+ * last row, has no part in the answer.  A sample sought outside the picture is
+ * that of the nearest edge.
  *
  * mb_col and mb_row say which macroblock is predicted, counted from 0.
  *
  *
  * Vectors
  *
- * A vector is a row and a column, each a signed 16-bit number of quarter luma
- * pixels; down and right are positive.  Every value is taken.
+ * A vector has a row and a column in quarters of a luma pixel, both int16_t;
+ * down and right are positive.  Every value is taken.
  *
  *   whole            takes mv_row and mv_col.
  *   split, merging   take 64 bytes: the vectors of the sixteen 4x4 luma blocks
@@ -58,8 +58,8 @@
  *
  * Beyond that a call may be given every value of every argument, and returns.
  *
- * The functions keep no state, allocate nothing and call nothing of the
- * host's: any number of threads may call them at once.
+ * The functions keep no state, allocate nothing and call nothing of the host's
+ * but memcpy and memset: any number of threads may call them at once.
  */
 #ifndef THRESHOWL_H
 #define THRESHOWL_H
@@ -91,8 +91,8 @@ enum {
        either is above 32768. */
     THRESHOWL_BAD_STRIDE = 2,
 
-    /* A plane has fewer than (height - 1) * stride + width bytes: y_len, u_len
-       or v_len is too small. */
+    /* y_len, u_len or v_len is below what its plane needs, which is
+       (height - 1) * stride + width. */
     THRESHOWL_SHORT_PLANE = 3,
 
     /* mb_col is not below mb_cols, or mb_row is not below mb_rows. */
@@ -139,8 +139,8 @@ uint32_t threshowl_predict_split(
 
 /*
  * Gives the number and the samples of threshowl_predict_split on every input,
- * sooner where all sixteen vectors are equal and both components lie in
- * -16384..16383: there it makes one whole prediction.  Outside that range
+ * sooner where the vectors are the same one, sixteen times, with row and column
+ * from -16384 to 16383: there it makes one whole prediction.  Outside that range
  * whole and split prediction differ in chroma, and it does not merge.
  */
 uint32_t threshowl_predict_merging(
@@ -157,10 +157,10 @@ uint32_t threshowl_predict_merging(
 /*
  * Recordings
  *
- * A link that drops leaves an IVF file with a partial last frame, and a count
- * of frames that was never filled in.  threshowl_ivf_mend makes a whole file of
- * it: the header and every complete frame, with the number of these frames as
- * its count.
+ * When the link drops during a recording, the last frame of the IVF file is cut
+ * short, and its header still lacks the count of frames.  threshowl_ivf_mend
+ * makes a whole file of it: the header and every complete frame, with the number
+ * of these frames as its count.
  *
  * file    the recording, file_len bytes: a header of 32 bytes (DKIF in bytes 0
  *         to 3, its own length in 6 and 7, the count of frames in 24 to 27), then
@@ -170,9 +170,9 @@ uint32_t threshowl_predict_merging(
  *
  * With 0 the first file_len - *dropped bytes of out are the mended file.  Save
  * for the four bytes of the count they are those of file, and the bytes of out
- * after them are as they were.  A frame of size 0 is complete.  *old_count is
- * the count that the header had, *new_count the one that it has now.  A mended
- * file that is mended again comes back as it is.
+ * after them are as they were.  An empty frame counts as complete.  *old_count
+ * is the count that the header had, *new_count the one that it has now.  A
+ * mended file that is mended again comes back as it is.
  *
  * With any other number not one byte of out is changed, and the three numbers
  * are set to 0:

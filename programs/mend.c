@@ -412,9 +412,9 @@ static void help(void) {
         "  -q, --quiet   no progress\n"
         "  --help        this text\n"
         "\n"
-        "Exit status: 0 done; 1 IN is refused: shorter than 32 bytes, longer than\n"
-        "2147483647, no DKIF mark, or a header length that is not 32; 2 bad usage; 3 a\n"
-        "file could not be read or written.\n",
+        "Exit status: 0 done; 1 IN is refused: below 32 or above 2147483647 bytes, not\n"
+        "marked DKIF, or a header that gives itself another length than 32; 2 bad usage;\n"
+        "3 a file could not be read or written.\n",
         stdout);
 }
 

@@ -14,7 +14,7 @@ use Rattle.ivf.specs.Counts.{length-counted, counted-else, counted-numbe
 use Rattle.ivf.specs.declared.Mended.{Mended}
 
 -- ---- the frames
--- THEOREM. A frame of size 0 is complete where its size and its time are there.
+-- THEOREM. An empty frame is complete where its size and its time are there.
 pub empty-complete : (file : List ℕ) (at : ℕ) → number4 file at ≡ 0 → at + 12 ≤ length file → complete file at ≡ true
 empty-complete file at e h = le-leb (at + frameLength file at) (length file) (omega arith)
 

@@ -1,5 +1,5 @@
-// VP8 inter prediction: one filter step, the filters, the fetches, blocks, and whole and split macroblocks. The modules build on each other in
-// this order; what the crate offers is listed below them. No function that it offers asks anything of its caller.
+// VP8 inter prediction: tables, one filter step and the filters; the fetches; blocks, over both; whole and split macroblocks, over blocks. The
+// modules stand by name; what the crate offers is listed below them, from the bottom up. No function that it offers asks anything of its caller.
 mod block;
 mod fetch;
 mod filters;

@@ -1,5 +1,5 @@
-// The samples of a square of a plane: n by n from column x0, row y0 on, inside the picture or out of it. A place outside is clamped to the
-// nearest edge.
+// The samples of a square of a plane: n by n from column x0, row y0 on, inside the picture or out of it. Outside it
+// the nearest edge is repeated.
 ghost use mathlib.Core.Path.{_≡_};
 ghost use mathlib.Core.Bool.{true};
 ghost use Prim.Native.Nat.{_+_, _*_, _<_, _≤_};

@@ -14,7 +14,7 @@ use Rattle.rfc6386.specs.declared.FilterSet.{FilterSet}
 use Rattle.rfc6386.specs.declared.FilterSet.the-variants.{Sixtap, Bilinear}
 
 -- ---- the places
--- what a fraction of k eighths adds to them: nothing where it is 0; else two places before and three after under six-tap, one after under bilinear
+-- what a fraction of k eighths adds to them: nothing where it is 0; else under six-tap two places before and three after, under bilinear one after
 abbrev pub before : FilterSet → ℕ → ℕ
 before Sixtap zero = 0
 before Sixtap (suc k) = 2
@@ -26,8 +26,8 @@ after Sixtap (suc k) = 3
 after Bilinear zero = 0
 after Bilinear (suc k) = 1
 
--- the n samples from `at` on, under a component m, of a plane that has the places 0 .. size - 1: they may see the places from the whole part
--- across the block, and those that the fraction adds, each clamped to the plane. That is every place from this one
+-- the n samples from `at` on, under a component m, of a plane that has the places 0 .. size - 1: they may see their own places, moved by the
+-- whole part, and those that the fraction adds, each clamped to the plane. That is every place from this one
 abbrev pub firstSeen : FilterSet → ℕ → ℤ → ℕ → ℕ
 firstSeen set at m size = clamped (pos at +ℤ wholePart m -ℤ pos (before set (fraction m))) size
 

@@ -18,7 +18,7 @@ use Rattle.rfc6386.specs.declared.ReconstructedMb.{ReconstructedMb}
 use Rattle.rfc6386.specs.declared.Prediction.{Prediction}
 
 -- ---- codes
--- filter code 0 is six-tap, 1 bilinear, every other gets number 5
+-- a filter's code: six-tap has 0 and bilinear 1; every other gets number 5
 abbrev pub setOf : ℕ → FilterSet
 setOf zero = Sixtap
 setOf (suc n) = Bilinear

@@ -1,5 +1,5 @@
-// The library that a decoder links: prediction over a record that holds the three lent planes, as in the Rust; over a lent list of vectors;
-// and over numbers and bytes, for C.
+// The library that a decoder links: prediction over the Rust's record of borrowed planes, over a lent list of vectors, and over numbers and
+// bytes, for C.
 pub mod boundary;
 mod listed;
 pub mod lists;

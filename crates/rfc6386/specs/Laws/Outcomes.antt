@@ -327,8 +327,8 @@ module _ (set : FilterSet) (l : List ℕ) (mx my s : ℕ) (byte : s ≤ 255) whe
   filtered16-flat = filters asBlock16 16
 
 -- ---- bilinear lies between
--- each of the n by n samples in l lies between the least and the greatest of the four samples of a picture at its place and one on; the sample
--- at row r, column c has its place at column X r c, row Y r c
+-- each of the n by n samples in l stays within four samples of a picture, those at its place and one on, on both axes; the sample at row r,
+-- column c has its place at column X r c, row Y r c
 pub record Lies (n : ℕ) (img : Image) (X Y : ℕ → ℕ → ℤ) (l : List ℕ) : Type 0 where
   pub each : (r c : ℕ) → r < n → c < n → Between (least4 img (X r c) (Y r c)) (most4 img (X r c) (Y r c)) (getD l (r * n + c) 0)
 

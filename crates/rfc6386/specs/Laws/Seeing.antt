@@ -173,7 +173,8 @@ module _ (u : ℤ) (count size q : ℕ) (some : 1 ≤ count) where
           (i, omega arith, omega (int, a, k, clamped-is last size, clamped-is z size, sum u (pos i), one-side z))
       at (yes a) (no n) = (count - 1, omega arith, omega (int, k, n, clamped-is last size, sum u (pos (count - 1)), one-side last))
 
--- THEOREM. `Seen` names exactly the places from the whole part across the block, with those that the fraction adds, each clamped to the plane.
+-- THEOREM. `Seen` names exactly these places: those of the block, moved by the whole part, and those that the fraction adds, each clamped to
+-- the plane.
 pub seen-exactly : (set : FilterSet) (n at : ℕ) (m : ℤ) (size q : ℕ) → 1 ≤ n
     → Seen set n at m size q
     ↔ ((i : ℕ)

@@ -1,0 +1,159 @@
+/*
+ * host.c: a host without a C library.
+ *
+ * It has what include/threshowl.h says that the library wants of a host, and is
+ * linked with the whole archive and nothing else: were any other symbol needed,
+ * the link would fail.  It calls each function once.
+ *
+ * Exit status: 0 when numbers and bytes are as they should be, else the number
+ * of the first call that is not, counted from 1.
+ */
+#include <stddef.h>
+#include <stdint.h>
+
+#include "threshowl.h"
+
+/* ---- What the library wants of a host ---- */
+
+void *memcpy(void *to, const void *from, size_t len);
+void *memset(void *to, int value, size_t len);
+
+/* volatile: else a compiler may make of the loop a call of the function itself. */
+void *memcpy(void *to, const void *from, size_t len)
+{
+    volatile uint8_t *t = (uint8_t *)to;
+    const uint8_t *f = (const uint8_t *)from;
+    size_t i;
+    for (i = 0; i < len; i++) {
+        t[i] = f[i];
+    }
+    return to;
+}
+
+void *memset(void *to, int value, size_t len)
+{
+    volatile uint8_t *t = (uint8_t *)to;
+    size_t i;
+    for (i = 0; i < len; i++) {
+        t[i] = (uint8_t)value;
+    }
+    return to;
+}
+
+/* ---- Prediction: a picture of one macroblock, one luma pixel to the right ---- */
+
+enum { COL = 4, OLD = 0xAA };
+
+static uint8_t y[256], u[64], v[64], due[THRESHOWL_OUT_LEN], out[THRESHOWL_OUT_LEN];
+static uint8_t vectors[THRESHOWL_VECTORS_LEN];
+
+#define PICTURE y, sizeof y, u, sizeof u, v, sizeof v, 16, 8, 1, 1, 0, 0
+#define VECTORS vectors, sizeof vectors
+
+static int same(const uint8_t *a, const uint8_t *b, size_t len)
+{
+    size_t i;
+    for (i = 0; i < len; i++) {
+        if (a[i] != b[i]) {
+            return 0;
+        }
+    }
+    return 1;
+}
+
+/* Ramps along the rows.  Luma moves by a whole pixel, chroma by half of one:
+   under bilinear it is then halfway to the next sample.  At the right edge both
+   repeat the last column. */
+static void prepare(void)
+{
+    size_t row, col, i;
+    for (row = 0; row < 16; row++) {
+        for (col = 0; col < 16; col++) {
+            y[row * 16 + col] = (uint8_t)(16 * col + row);
+            due[row * 16 + col] = (uint8_t)(16 * (col < 15 ? col + 1 : 15) + row);
+        }
+    }
+    for (row = 0; row < 8; row++) {
+        for (col = 0; col < 8; col++) {
+            size_t half = col < 7 ? 15 : 0;
+            u[row * 8 + col] = (uint8_t)(30 * col + row);
+            v[row * 8 + col] = (uint8_t)(250 - 30 * col - row);
+            due[256 + row * 8 + col] = (uint8_t)(30 * col + row + half);
+            due[320 + row * 8 + col] = (uint8_t)(250 - 30 * col - row - half);
+        }
+    }
+    for (i = 0; i < 16; i++) {
+        vectors[4 * i + 2] = COL;
+    }
+}
+
+/* Whether a call that gave this number left in out what is due.  Then out is
+   overwritten, so that the next call has to write it. */
+static int predicted(uint32_t number)
+{
+    int holds = number == THRESHOWL_DONE && same(out, due, sizeof out);
+    memset(out, OLD, sizeof out);
+    return holds;
+}
+
+static int whole(void)
+{
+    return predicted(threshowl_predict_whole(PICTURE, 0, COL, THRESHOWL_BILINEAR, 0, out, sizeof out));
+}
+
+static int split(void)
+{
+    return predicted(threshowl_predict_split(PICTURE, VECTORS, THRESHOWL_BILINEAR, 0, out, sizeof out));
+}
+
+static int merging(void)
+{
+    return predicted(threshowl_predict_merging(PICTURE, VECTORS, THRESHOWL_BILINEAR, 0, out, sizeof out));
+}
+
+/* ---- Recordings: a complete frame, then five bytes of another ---- */
+
+static int mend(void)
+{
+    /* The header counts nine frames; the one that is there has three bytes of data. */
+    static uint8_t file[32 + 15 + 5] = {
+        'D', 'K', 'I', 'F', 0, 0, 32, [24] = 9, [32] = 3, [44] = 7, 8, 9, 200
+    };
+    static uint8_t mended[sizeof file], wanted[sizeof file];
+    uint64_t old_count = OLD, new_count = OLD, dropped = OLD;
+    uint32_t number;
+    memset(mended, OLD, sizeof mended);
+    memset(wanted, OLD, sizeof wanted);
+    memcpy(wanted, file, 47);
+    wanted[24] = 1;
+    number = threshowl_ivf_mend(file, sizeof file, mended, sizeof mended,
+                                &old_count, &new_count, &dropped);
+    return number == THRESHOWL_DONE && old_count == 9 && new_count == 1 && dropped == 5
+           && same(mended, wanted, sizeof wanted);
+}
+
+/* ---- Where the program begins and ends (Linux, x86-64) ---- */
+
+static int (*const calls[])(void) = {whole, split, merging, mend};
+
+int run(void);
+
+int run(void)
+{
+    size_t i;
+    prepare();
+    for (i = 0; i < sizeof calls / sizeof calls[0]; i++) {
+        if (!calls[i]()) {
+            return (int)i + 1;
+        }
+    }
+    return 0;
+}
+
+__asm__(".globl _start\n"
+        "_start:\n"
+        "    xor %ebp, %ebp\n"
+        "    call run\n"
+        "    mov %eax, %edi\n"
+        "    mov $60, %eax\n"
+        "    syscall\n");
