@@ -1,7 +1,4 @@
 -- Laws that several proofs of this crate cite.
-pub mod Copying
-pub mod Filling
-pub mod Packing
 pub mod Squares
 pub mod Fetches
 pub mod Tiles

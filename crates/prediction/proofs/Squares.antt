@@ -14,9 +14,9 @@ use Rattle.rfc6386.specs.Number.{clamped}
 use Rattle.rfc6386.specs.Raster.{raster, written}
 use Rattle.rfc6386.specs.Picture.{Plane, Image, image, square}
 use Rattle.rfc6386.specs.Laws.Raster.{row-fits, raster-ext, within-true, getD-written}
-use Rattle.prediction.specs.Rows.{laid, Room}
+use Rattle.filters.specs.Rows.{laid, Room}
 use Rattle.prediction.specs.Places.{Inside, Source, clampedRow, clampedRect}
-use Rattle.prediction.proofs.Copying.{Writing, writing-more}
+use Rattle.filters.specs.Laws.Copying.{Writing, writing-more}
 
 -- a signed argument as its callee reads it: its range
 pub near-as : {w : Width} {z : ℤ} {u d u′ d′ : ℕ} (h : Held w z u d) → Within z u′ d′ → Within (h .val) u′ d′

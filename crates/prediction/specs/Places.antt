@@ -10,7 +10,7 @@ use Rattle.rfc6386.specs.Number.{clamped}
 use Rattle.rfc6386.specs.Raster.{written}
 use Rattle.rfc6386.specs.Picture.{Plane, image}
 use Rattle.rfc6386.specs.Laws.Refusals.{Fits}
-use Rattle.prediction.specs.Rows.{laid}
+use Rattle.filters.specs.Rows.{laid}
 
 -- a coordinate so near that nothing added to it here leaves 64 bits
 abbrev pub Near : ℤ → Type 0

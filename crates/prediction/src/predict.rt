@@ -1,8 +1,6 @@
 // Prediction of a macroblock from three planes beside a record of their sizes: whole, at whole pixels, split, merging, and by version. Each
 // call takes everything and refuses by number, with samples of zeros.
 ghost use mathlib.Core.Path.{_≡_};
-ghost use lib.Dec.{eqb};
-ghost use Rattle.rfc6386.specs.Filter.{versionSet};
 ghost use mathlib.Core.Bool.{cond, _&&_};
 ghost use Rattle.rfc6386.specs.Vector.{fullPixel, isWhole};
 ghost use Rattle.rfc6386.specs.Macroblock.{lent, whole, split, wholePixel, noSamples};
@@ -15,7 +13,6 @@ use crate::split::split_chroma;
 use crate::split::split_luma;
 use crate::square::pixels_of_8;
 use crate::square::pixels_of_16;
-use crate::tables::profile_for_version;
 use motion_vectors::are_one;
 use motion_vectors::chroma_vector;
 use motion_vectors::luma_vector;
@@ -247,62 +244,6 @@ pub fn predict_merging(
         mb_row,
         split_luma_mvs,
         full_pixel,
-        set,
-    )
-}
-
-// Whole prediction with the table and the flag of a frame's version.
-pub fn predict_inter_mb_by_version(
-    y: &[u8],
-    u: &[u8],
-    v: &[u8],
-    sizes: Sizes,
-    mb_col: usize,
-    mb_row: usize,
-    luma_mv: Mv,
-    version: u8,
-) -> Prediction
-    ensures { λ r. ⌜ r ≡ whole (versionSet version) (fullPixel (eqb version 3)) (lent (now (y .entry)) (now (u .entry)) (now (v .entry)) sizes) «mb_col» «mb_row» «luma_mv» ⌝ }
-{
-    let profile = profile_for_version(version);
-    let set = profile.set;
-    predict_inter_mb(
-        y,
-        u,
-        v,
-        sizes,
-        mb_col,
-        mb_row,
-        luma_mv,
-        profile.full_pixel,
-        set,
-    )
-}
-
-// Split prediction with them.
-pub fn predict_split_mv_by_version(
-    y: &[u8],
-    u: &[u8],
-    v: &[u8],
-    sizes: Sizes,
-    mb_col: usize,
-    mb_row: usize,
-    split_luma_mvs: [Mv; 16],
-    version: u8,
-) -> Prediction
-    ensures { λ r. ⌜ r ≡ split (versionSet version) (fullPixel (eqb version 3)) (lent (now (y .entry)) (now (u .entry)) (now (v .entry)) sizes) «mb_col» «mb_row» «split_luma_mvs» ⌝ }
-{
-    let profile = profile_for_version(version);
-    let set = profile.set;
-    predict_split_mv(
-        y,
-        u,
-        v,
-        sizes,
-        mb_col,
-        mb_row,
-        split_luma_mvs,
-        profile.full_pixel,
         set,
     )
 }

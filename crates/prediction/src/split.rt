@@ -9,7 +9,7 @@ ghost use Rattle.rfc6386.specs.Block.{planeOf};
 ghost use Rattle.rfc6386.specs.Macroblock as macroblock;
 ghost use Rattle.prediction.specs.Tiles.{Starts};
 use crate::block::block_of_4;
-use crate::rect::copy_rect;
+use filters::copy_rect;
 use motion_vectors::luma_vector;
 use rfc6386::FilterSet;
 use rfc6386::Mv;

@@ -11,7 +11,7 @@ ghost use Rattle.rfc6386.specs.Picture.{image, square, pixels, halo};
 ghost use Rattle.rfc6386.specs.Refusal.{planeRefusal};
 ghost use Rattle.rfc6386.specs.Block.{planeOf};
 ghost use Rattle.prediction.specs.Places.{Near, Inside, Source, clampedRow, clampedRect};
-use crate::rect::copy_rect;
+use filters::copy_rect;
 use motion_vectors::whole_part;
 use rfc6386::Mv;
 

@@ -1,22 +1,22 @@
 // Records of functions that take no plane. `r` is a record after its first byte.
 use check::same;
+use filters::BILINEAR_FILTERS;
+use filters::SIXTAP_FILTERS;
+use filters::clamp255;
 use motion_vectors::chroma_idx_for_luma_subblock;
 use motion_vectors::whole_pixel_fraction_is_zero;
-use prediction::BILINEAR_FILTERS;
-use prediction::SIXTAP_FILTERS;
-use prediction::clamp255;
-use prediction::filter_set_for_version;
 use rfc6386::FilterSet;
 use shims::bytes::byte_at;
 use shims::bytes::mv_of;
 use shims::bytes::part;
 use shims::bytes::signed;
 use shims::bytes::word;
-use shims::filters::shim_interp;
-use shims::filters::shim_sixtap;
+use shims::steps::shim_interp;
+use shims::steps::shim_sixtap;
 use shims::vectors::shim_split_chroma;
 use shims::vectors::shim_vector;
 use std::num::wrapping_add_usize;
+use versions::filter_set_for_version;
 
 fn vector(which: u8, r: &[u8]) -> bool {
     let mv = mv_of(r);

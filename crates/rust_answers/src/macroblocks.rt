@@ -7,10 +7,8 @@ use crate::tally::WHOLE_BY_VERSION;
 use crate::tally::counted;
 use check::same;
 use prediction::predict_inter_mb;
-use prediction::predict_inter_mb_by_version;
 use prediction::predict_merging;
 use prediction::predict_split_mv;
-use prediction::predict_split_mv_by_version;
 use rfc6386::Prediction;
 use rfc6386::Sizes;
 use shims::bytes::byte_at;
@@ -20,6 +18,8 @@ use shims::bytes::mvs_of;
 use shims::bytes::part;
 use shims::codes::set_of;
 use shims::planes::shim_whole_pixel;
+use versions::predict_inter_mb_by_version;
+use versions::predict_split_mv_by_version;
 
 fn is(p: Prediction, answer: &[u8]) -> bool {
     let samples = flat(p);

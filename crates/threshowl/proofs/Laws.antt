@@ -19,10 +19,9 @@ use Rattle.signed.specs.Held.{Held, nat-at, lit-neg, sub, sub-need}
 use Rattle.rfc6386.specs.Number.{wrap16}
 use Rattle.rfc6386.specs.Refusal.{orElse}
 use Rattle.rfc6386.specs.Promises.{one-result}
-use Rattle.rfc6386.specs.Macroblock.{answered, noSamples}
 use Rattle.rfc6386.specs.Laws.Vectors.{wrap-in, wrap-high}
 use Rattle.rfc6386.specs.Laws.Refusals.{done, refused}
-use Rattle.threshowl.specs.Boundary.{setOf, codeRefusal, codesRefusal, flat, roomRefusal, callNumber, Left, refusedBy}
+use Rattle.threshowl.specs.Boundary.{setOf, codeRefusal, codesRefusal, flat, roomRefusal, callNumber, Left}
 use Rattle.rfc6386.specs.declared.FilterSet.the-variants.{Bilinear}
 use Rattle.rfc6386.specs.declared.Prediction.{Prediction}
 
@@ -117,22 +116,6 @@ or-none (suc n) = refl
 -- 64 bytes, as sixteen vectors have, leave the number to the filter code
 pub codes-as : (filter count : ℕ) → count ≡ 64 → codeRefusal filter ≡ codesRefusal filter count
 codes-as filter count e = sym (or-none (codeRefusal filter)) ∙ ap (codesRefusal filter) (sym e)
-
--- ---- a number that comes after a prediction's own
-own-zero : (n m : ℕ) → orElse n m ≡ 0 → n ≡ 0
-own-zero zero m e = refl
-own-zero (suc n) m e = e
-
-module _ (p : Prediction) (number n : ℕ) (e : n ≡ orElse (p .number) number) where
-  pub refused-not : n ≡ 0 → p ≡ refusedBy number p
-  unfolding refusedBy answered
-  refused-not z =
-      let zero-is : orElse (p .number) number ≡ 0 = sym e ∙ z in
-      λ i. record { number = (own-zero (p .number) number zero-is ∙ sym zero-is) i; samples = sym (done (p .samples) noSamples zero-is) i }
-
-  pub refused-too : (n ≡ 0 → ⊥) → record { number = n; samples = noSamples } ≡ refusedBy number p
-  unfolding refusedBy answered
-  refused-too h = λ i. record { number = e i; samples = sym (refused (p .samples) noSamples (λ z. h (e ∙ z))) i }
 
 -- ---- THEOREM. No two outcomes meet the contract of a C function: its number, and the bytes that it leaves.
 pub one-outcome : {p : Prediction} {codes : ℕ} {out : List ℕ} {r s : ℕ} {a b : List ℕ} → Left p codes out r a → Left p codes out s b → (r ≡ s) × (a ≡ b)

@@ -1,6 +1,3 @@
 -- The proofs of this crate: laws that several share, one module for each function; and demand 3, carried to the C functions.
 pub mod Laws
 pub mod Carried
-pub mod Thin
-pub mod PlaneEntries
-pub mod ListWalk

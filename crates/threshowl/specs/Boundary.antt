@@ -1,16 +1,15 @@
--- What crosses the boundary: codes and flags, vectors as records and as bytes, and the samples of a macroblock as 384 bytes.
+-- What crosses the boundary: codes and flags, vectors as bytes, and the samples of a macroblock as 384 bytes.
 use mathlib.Core.Path.{_≡_}
 use mathlib.Core.Bool.{Bool, cond, not}
 use mathlib.Core.List.{List, _++_}
 use Prim.Native.Nat.{ℕ, zero, suc, _+_, _*_}
 use lib.Dec.{ltb, eqb}
-use lib.ListN.{length, getD, replicate}
+use lib.ListN.{length, getD}
 use lib.IntN.{ℤ, pos}
 use Rattle.rfc6386.specs.Number.{wrap16}
-use Rattle.rfc6386.specs.Vector.{zeroVector}
 use Rattle.rfc6386.specs.Raster.{tab}
 use Rattle.rfc6386.specs.Refusal.{orElse, ifDone}
-use Rattle.rfc6386.specs.Macroblock.{answered}
+use Rattle.entries.specs.Lists.{countRefusal}
 use Rattle.rfc6386.specs.declared.Mv.{Mv}
 use Rattle.rfc6386.specs.declared.FilterSet.{FilterSet}
 use Rattle.rfc6386.specs.declared.FilterSet.the-variants.{Sixtap, Bilinear}
@@ -31,10 +30,6 @@ abbrev pub flagOf : ℕ → Bool
 flagOf n = not (eqb n 0)
 
 -- ---- vectors
--- number 6: not so many as there should be
-abbrev pub countRefusal : ℕ → ℕ → ℕ
-countRefusal due n = cond (eqb n due) 0 6
-
 -- of a call that is lent its vectors as bytes: 5 comes before 6
 abbrev pub codesRefusal : ℕ → ℕ → ℕ
 codesRefusal code count = orElse (codeRefusal code) (countRefusal 64 count)
@@ -51,18 +46,6 @@ vectorAt b i =
 -- sixteen of them; a byte past the end counts as 0
 unfoldable pub vectorsOf : List ℕ → List Mv
 vectorsOf b = tab 16 (vectorAt b)
-
--- a lent list of vectors as sixteen, zeros where it has not so many
-unfoldable pub sixteenOf : List Mv → List Mv
-sixteenOf l = ifDone (countRefusal 16 (length l)) l (replicate 16 zeroVector)
-
--- a prediction that number n refuses too, after its own numbers
-unfoldable pub refusedBy : ℕ → Prediction → Prediction
-refusedBy n p = answered (orElse (p .number) n) (p .samples)
-
--- a prediction from a lent list of so many vectors
-abbrev pub listed : Prediction → ℕ → Prediction
-listed p count = refusedBy (countRefusal 16 count) p
 
 -- ---- the output
 -- the samples of a macroblock one after the other

@@ -1,6 +1,7 @@
 // Numbers 5, 6 and 7.
 ghost use mathlib.Core.Path.{_≡_};
-ghost use Rattle.threshowl.specs.Boundary.{codeRefusal, countRefusal, roomRefusal};
+ghost use Rattle.entries.specs.Lists.{countRefusal};
+ghost use Rattle.threshowl.specs.Boundary.{codeRefusal, roomRefusal};
 
 pub fn code_refusal(filter: u8) -> u32
     ensures { λ r. ⌜ r ≡ codeRefusal filter ⌝ }

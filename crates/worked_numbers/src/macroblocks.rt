@@ -4,16 +4,16 @@ use crate::say::not_zero;
 use crate::say::outcome;
 use crate::say::text;
 use prediction::predict_inter_mb;
-use prediction::predict_inter_mb_by_version;
 use prediction::predict_inter_mb_whole_pixel;
 use prediction::predict_merging;
 use prediction::predict_split_mv;
-use prediction::predict_split_mv_by_version;
 use rfc6386::FilterSet;
 use rfc6386::Mv;
 use rfc6386::Prediction;
 use rfc6386::Sizes;
 use std::num::wrapping_add_usize;
+use versions::predict_inter_mb_by_version;
+use versions::predict_split_mv_by_version;
 
 fn say(what: &[u8], p: Prediction) {
     let samples = p.samples;

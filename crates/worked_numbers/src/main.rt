@@ -2,12 +2,12 @@
 // tests. Every line says what was given, and after the colon what came back. A pair such as 3/0 is the call's number and how many of its
 // samples, or of the bytes of its destination, are not 0: every plane here shows the one value 200, so that an accepted call has all of them
 // and a refused one has none. What is expected, stdout, was worked out from the paper.
-mod filters;
 mod halos;
 mod into;
 mod macroblocks;
 mod planes;
 mod say;
+mod steps;
 mod vectors;
 
 fn main() {
@@ -15,6 +15,6 @@ fn main() {
     halos::all();
     planes::all();
     into::all();
-    filters::all();
+    steps::all();
     vectors::all();
 }

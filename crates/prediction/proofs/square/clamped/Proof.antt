@@ -12,7 +12,7 @@ use Rattle.rfc6386.specs.Picture.{image}
 use Rattle.rfc6386.specs.Block.{planeOf}
 use Rattle.rfc6386.specs.Laws.Raster.{row-fits}
 use Rattle.prediction.specs.Places.{clampedRect}
-use Rattle.prediction.proofs.Copying.{Writing, writing-none, writing-all}
+use Rattle.filters.specs.Laws.Copying.{Writing, writing-none, writing-all}
 use Rattle.prediction.proofs.Squares.{near-as, in-plane, clamped-more}
 use Rattle.prediction.proofs.square.clamped.Statement.{statement}
 use Rattle.prediction.proofs.square.clamped.Tie as tie

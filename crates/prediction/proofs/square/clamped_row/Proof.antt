@@ -10,7 +10,7 @@ use mir.Facts.{toZ-ofZ}
 use Rattle.signed.specs.Held.{par}
 use Rattle.rfc6386.specs.Number.{clamped}
 use Rattle.prediction.specs.Places.{clampedRow}
-use Rattle.prediction.proofs.Copying.{Laying, laying-none, laying-more, laying-all}
+use Rattle.filters.specs.Laws.Copying.{Laying, laying-none, laying-more, laying-all}
 use Rattle.prediction.proofs.Squares.{near-as}
 use Rattle.prediction.proofs.square.clamped_row.Statement.{statement}
 use Rattle.prediction.proofs.square.clamped_row.Tie as tie

@@ -1,0 +1,2 @@
+-- What the entries add to a prediction.
+pub mod Lists

@@ -1,0 +1,74 @@
+// Prediction from sixteen vectors that were read from a list, and the number of that list.
+ghost use mathlib.Core.Path.{_≡_};
+ghost use Rattle.rfc6386.specs.Vector.{fullPixel};
+ghost use Rattle.rfc6386.specs.Macroblock.{lent, split};
+ghost use Rattle.entries.specs.Lists.{refusedBy};
+use crate::sixteen::MvList;
+use prediction::or_else;
+use prediction::predict_merging;
+use prediction::predict_split_mv;
+use rfc6386::FilterSet;
+use rfc6386::Prediction;
+use rfc6386::ReconstructedMb;
+use rfc6386::Sizes;
+
+// A prediction that one more number refuses, after its own.
+fn refused_by(p: Prediction, number: u32) -> Prediction
+    ensures { λ r. ⌜ r ≡ refusedBy number p ⌝ }
+{
+    let own = p.number;
+    let n = or_else(own, number);
+    if n == 0 {
+        return p;
+    }
+    Prediction {
+        number: n,
+        samples: ReconstructedMb {
+            y: [0u8; 256],
+            u: [0u8; 64],
+            v: [0u8; 64],
+        },
+    }
+}
+
+pub fn listed_split(
+    y: &[u8],
+    u: &[u8],
+    v: &[u8],
+    sizes: Sizes,
+    mb_col: usize,
+    mb_row: usize,
+    list: MvList,
+    full_pixel: bool,
+    set: FilterSet,
+) -> Prediction
+    ensures { λ r. ⌜ r ≡ refusedBy (list .number) (split set (fullPixel «full_pixel») (lent (now (y .entry)) (now (u .entry)) (now (v .entry)) sizes) «mb_col» «mb_row» (list .mvs)) ⌝ }
+{
+    let mvs = list.mvs;
+    let number = list.number;
+    refused_by(
+        predict_split_mv(y, u, v, sizes, mb_col, mb_row, mvs, full_pixel, set),
+        number,
+    )
+}
+
+pub fn listed_merging(
+    y: &[u8],
+    u: &[u8],
+    v: &[u8],
+    sizes: Sizes,
+    mb_col: usize,
+    mb_row: usize,
+    list: MvList,
+    full_pixel: bool,
+    set: FilterSet,
+) -> Prediction
+    ensures { λ r. ⌜ r ≡ refusedBy (list .number) (split set (fullPixel «full_pixel») (lent (now (y .entry)) (now (u .entry)) (now (v .entry)) sizes) «mb_col» «mb_row» (list .mvs)) ⌝ }
+{
+    let mvs = list.mvs;
+    let number = list.number;
+    refused_by(
+        predict_merging(y, u, v, sizes, mb_col, mb_row, mvs, full_pixel, set),
+        number,
+    )
+}

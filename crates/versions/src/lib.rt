@@ -1,0 +1,100 @@
+// What a frame's version number asks for: the tap table and the full-pixel flag; and prediction with them.
+ghost use mathlib.Core.Path.{_≡_};
+ghost use lib.Dec.{eqb};
+ghost use Rattle.rfc6386.specs.Filter.{versionSet, versionProfile};
+ghost use Rattle.rfc6386.specs.Vector.{fullPixel};
+ghost use Rattle.rfc6386.specs.Macroblock.{lent, whole, split};
+use prediction::predict_inter_mb;
+use prediction::predict_split_mv;
+use rfc6386::FilterSet;
+use rfc6386::Mv;
+use rfc6386::Prediction;
+use rfc6386::Profile;
+use rfc6386::Sizes;
+
+// The table and the full-pixel flag of a version. Only 0 to 3 have a meaning; the others get the Rust's answer.
+pub fn profile_for_version(version: u8) -> Profile
+    ensures { λ r. ⌜ r ≡ versionProfile version ⌝ }
+{
+    match version {
+        0 => Profile {
+            set: FilterSet::Sixtap,
+            full_pixel: false,
+        },
+        1..=2 => Profile {
+            set: FilterSet::Bilinear,
+            full_pixel: false,
+        },
+        3 => Profile {
+            set: FilterSet::Bilinear,
+            full_pixel: true,
+        },
+        4..=255 => Profile {
+            set: FilterSet::Bilinear,
+            full_pixel: false,
+        },
+    }
+}
+
+pub fn filter_set_for_version(version: u8) -> FilterSet
+    ensures { λ r. ⌜ r ≡ versionSet version ⌝ }
+{
+    let profile = profile_for_version(version);
+    profile.set
+}
+
+// Whole prediction with the table and the flag of a frame's version.
+pub fn predict_inter_mb_by_version(
+    y: &[u8],
+    u: &[u8],
+    v: &[u8],
+    sizes: Sizes,
+    mb_col: usize,
+    mb_row: usize,
+    luma_mv: Mv,
+    version: u8,
+) -> Prediction
+    ensures { λ r. ⌜ r ≡ whole (versionSet version) (fullPixel (eqb version 3)) (lent (now (y .entry)) (now (u .entry)) (now (v .entry)) sizes) «mb_col» «mb_row» «luma_mv» ⌝ }
+{
+    let profile = profile_for_version(version);
+    let set = profile.set;
+    predict_inter_mb(
+        y,
+        u,
+        v,
+        sizes,
+        mb_col,
+        mb_row,
+        luma_mv,
+        profile.full_pixel,
+        set,
+    )
+}
+
+// Split prediction with them.
+pub fn predict_split_mv_by_version(
+    y: &[u8],
+    u: &[u8],
+    v: &[u8],
+    sizes: Sizes,
+    mb_col: usize,
+    mb_row: usize,
+    split_luma_mvs: [Mv; 16],
+    version: u8,
+) -> Prediction
+    ensures { λ r. ⌜ r ≡ split (versionSet version) (fullPixel (eqb version 3)) (lent (now (y .entry)) (now (u .entry)) (now (v .entry)) sizes) «mb_col» «mb_row» «split_luma_mvs» ⌝ }
+{
+    let profile = profile_for_version(version);
+    let set = profile.set;
+    predict_split_mv(
+        y,
+        u,
+        v,
+        sizes,
+        mb_col,
+        mb_row,
+        split_luma_mvs,
+        profile.full_pixel,
+        set,
+    )
+}
