@@ -26,7 +26,7 @@
 # RUSTC=..., see tests/x86-64.sh; the benchmark times a library made for that
 # processor, see bench/native-archive.
 
-VERSION = 0.1.0
+VERSION = 0.2.0
 PREFIX = /usr/local
 DESTDIR =
 ARCHIVE = target/staticlib/libthreshowl.a

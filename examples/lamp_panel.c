@@ -291,7 +291,7 @@ static void write_png(const char *folder, const char *name, const Picture *p)
 
 typedef struct {
     const Picture *picture;
-    size_t y_len, u_len, v_len, y_stride, uv_stride;
+    size_t y_len, u_len, v_len, y_stride, u_stride, v_stride;
     size_t mb_cols, mb_rows, mb_col, mb_row;
     int16_t row, col;
     size_t vectors_len;
@@ -301,8 +301,8 @@ typedef struct {
 
 static Call good_call(const Picture *p, int16_t row, int16_t col)
 {
-    const Call c = {p,       Y_LEN,  UV_LEN, UV_LEN, Y_WIDTH, UV_WIDTH,
-                    MB_COLS, MB_ROWS, MB_COL, MB_ROW, row,     col,
+    const Call c = {p,        Y_LEN,   UV_LEN,  UV_LEN, Y_WIDTH, UV_WIDTH,
+                    UV_WIDTH, MB_COLS, MB_ROWS, MB_COL, MB_ROW,  row,      col,
                     THRESHOWL_VECTORS_LEN, THRESHOWL_SIXTAP, 0, THRESHOWL_OUT_LEN};
     return c;
 }
@@ -328,8 +328,9 @@ static uint32_t whole(const Call *c, Answer *a)
 {
     const Picture *p = c->picture;
     return threshowl_predict_whole(p->y, c->y_len, p->u, c->u_len, p->v, c->v_len, c->y_stride,
-                                   c->uv_stride, c->mb_cols, c->mb_rows, c->mb_col, c->mb_row,
-                                   c->row, c->col, c->filter, c->full_pixel, a->bytes, c->out_len);
+                                   c->u_stride, c->v_stride, c->mb_cols, c->mb_rows, c->mb_col,
+                                   c->mb_row, c->row, c->col, c->filter, c->full_pixel, a->bytes,
+                                   c->out_len);
 }
 
 static uint32_t split(const Call *c, Answer *a)
@@ -338,9 +339,9 @@ static uint32_t split(const Call *c, Answer *a)
     uint8_t vectors[THRESHOWL_VECTORS_LEN];
     sixteen(c, vectors);
     return threshowl_predict_split(p->y, c->y_len, p->u, c->u_len, p->v, c->v_len, c->y_stride,
-                                   c->uv_stride, c->mb_cols, c->mb_rows, c->mb_col, c->mb_row,
-                                   vectors, c->vectors_len, c->filter, c->full_pixel, a->bytes,
-                                   c->out_len);
+                                   c->u_stride, c->v_stride, c->mb_cols, c->mb_rows, c->mb_col,
+                                   c->mb_row, vectors, c->vectors_len, c->filter, c->full_pixel,
+                                   a->bytes, c->out_len);
 }
 
 static uint32_t merging(const Call *c, Answer *a)
@@ -349,9 +350,9 @@ static uint32_t merging(const Call *c, Answer *a)
     uint8_t vectors[THRESHOWL_VECTORS_LEN];
     sixteen(c, vectors);
     return threshowl_predict_merging(p->y, c->y_len, p->u, c->u_len, p->v, c->v_len, c->y_stride,
-                                     c->uv_stride, c->mb_cols, c->mb_rows, c->mb_col, c->mb_row,
-                                     vectors, c->vectors_len, c->filter, c->full_pixel, a->bytes,
-                                     c->out_len);
+                                     c->u_stride, c->v_stride, c->mb_cols, c->mb_rows, c->mb_col,
+                                     c->mb_row, vectors, c->vectors_len, c->filter, c->full_pixel,
+                                     a->bytes, c->out_len);
 }
 
 enum { WHOLE, SPLIT, MERGING, FORMS };
@@ -432,8 +433,16 @@ static void show_lamps(const Picture *panel, const char *folder)
 
 /* ---- Every number, from a call made to provoke it ---- */
 
-static void too_many_columns(Call *c) { c->mb_cols = 1025; }
+static void too_many_rows(Call *c) { c->mb_rows = 1025; }
 static void narrow_stride(Call *c) { c->y_stride = Y_WIDTH - 1; }
+/* In a picture of one column, where U's stride is good. */
+static void narrow_v_stride(Call *c)
+{
+    c->mb_cols = 1;
+    c->mb_col = 0;
+    c->v_stride = 7;
+}
+
 static void short_plane(Call *c) { c->v_len = UV_LEN - 1; }
 static void row_outside(Call *c) { c->mb_row = MB_ROWS; }
 static void unknown_filter(Call *c) { c->filter = 2; }
@@ -447,8 +456,9 @@ typedef struct {
 } Fault;
 
 static const Fault faults[] = {
-    {THRESHOWL_BAD_SIZE, "1025 macroblock columns", too_many_columns},
+    {THRESHOWL_BAD_SIZE, "1025 macroblock rows", too_many_rows},
     {THRESHOWL_BAD_STRIDE, "a luma stride of 47 for 48 samples", narrow_stride},
+    {THRESHOWL_BAD_STRIDE, "a V stride of 7 for 8 samples", narrow_v_stride},
     {THRESHOWL_SHORT_PLANE, "a V plane one byte short", short_plane},
     {THRESHOWL_OUTSIDE_PICTURE, "macroblock row 2 of a picture of 2", row_outside},
     {THRESHOWL_BAD_FILTER, "filter code 2", unknown_filter},

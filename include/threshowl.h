@@ -11,12 +11,12 @@
  *
  * It has mb_cols by mb_rows macroblocks, and three planes of bytes, row after
  * row: Y of mb_cols * 16 by mb_rows * 16 samples, U and V of mb_cols * 8 by
- * mb_rows * 8 samples each.  y_stride and uv_stride are the bytes from one row
- * to the next, at least the plane's width and at most 32768.  y_len, u_len and
- * v_len are the bytes that each plane has: (height - 1) * stride + width are
- * needed, and more do no harm.  What stands past the end of a row, or after the
- * last row, has no part in the answer.  A sample sought outside the picture is
- * that of the nearest edge.
+ * mb_rows * 8 samples each.  y_stride, u_stride and v_stride are the bytes from
+ * one row of that plane to the next, at least its width and at most 32768; they
+ * need not be equal.  y_len, u_len and v_len are the bytes that each plane has:
+ * (height - 1) * stride + width are needed, and more do no harm.  What stands
+ * past the end of a row, or after the last row, has no part in the answer.  A
+ * sample sought outside the picture is that of the nearest edge.
  *
  * mb_col and mb_row say which macroblock is predicted, counted from 0.
  *
@@ -87,12 +87,12 @@ enum {
     /* mb_cols or mb_rows is not in 1..1024. */
     THRESHOWL_BAD_SIZE = 1,
 
-    /* y_stride is below mb_cols * 16, uv_stride is below mb_cols * 8, or
-       either is above 32768. */
+    /* y_stride is below mb_cols * 16, u_stride or v_stride is below
+       mb_cols * 8, or any of the three is above 32768. */
     THRESHOWL_BAD_STRIDE = 2,
 
     /* y_len, u_len or v_len is below what its plane needs, which is
-       (height - 1) * stride + width. */
+       (height - 1) * stride + width, with that plane's stride. */
     THRESHOWL_SHORT_PLANE = 3,
 
     /* mb_col is not below mb_cols, or mb_row is not below mb_rows. */
@@ -115,7 +115,7 @@ uint32_t threshowl_predict_whole(
     const uint8_t *y, size_t y_len,
     const uint8_t *u, size_t u_len,
     const uint8_t *v, size_t v_len,
-    size_t y_stride, size_t uv_stride,
+    size_t y_stride, size_t u_stride, size_t v_stride,
     size_t mb_cols, size_t mb_rows,
     size_t mb_col, size_t mb_row,
     int16_t mv_row, int16_t mv_col,
@@ -130,7 +130,7 @@ uint32_t threshowl_predict_split(
     const uint8_t *y, size_t y_len,
     const uint8_t *u, size_t u_len,
     const uint8_t *v, size_t v_len,
-    size_t y_stride, size_t uv_stride,
+    size_t y_stride, size_t u_stride, size_t v_stride,
     size_t mb_cols, size_t mb_rows,
     size_t mb_col, size_t mb_row,
     const uint8_t *vectors, size_t vectors_len,
@@ -147,7 +147,7 @@ uint32_t threshowl_predict_merging(
     const uint8_t *y, size_t y_len,
     const uint8_t *u, size_t u_len,
     const uint8_t *v, size_t v_len,
-    size_t y_stride, size_t uv_stride,
+    size_t y_stride, size_t u_stride, size_t v_stride,
     size_t mb_cols, size_t mb_rows,
     size_t mb_col, size_t mb_row,
     const uint8_t *vectors, size_t vectors_len,

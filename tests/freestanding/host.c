@@ -42,12 +42,12 @@ void *memset(void *to, int value, size_t len)
 
 /* ---- Prediction: a picture of one macroblock, one luma pixel to the right ---- */
 
-enum { COL = 4, OLD = 0xAA };
+enum { COL = 4, OLD = 0xAA, V_STRIDE = 13 };
 
-static uint8_t y[256], u[64], v[64], due[THRESHOWL_OUT_LEN], out[THRESHOWL_OUT_LEN];
+static uint8_t y[256], u[64], v[V_STRIDE * 7 + 8], due[THRESHOWL_OUT_LEN], out[THRESHOWL_OUT_LEN];
 static uint8_t vectors[THRESHOWL_VECTORS_LEN];
 
-#define PICTURE y, sizeof y, u, sizeof u, v, sizeof v, 16, 8, 1, 1, 0, 0
+#define PICTURE y, sizeof y, u, sizeof u, v, sizeof v, 16, 8, V_STRIDE, 1, 1, 0, 0
 #define VECTORS vectors, sizeof vectors
 
 static int same(const uint8_t *a, const uint8_t *b, size_t len)
@@ -77,7 +77,7 @@ static void prepare(void)
         for (col = 0; col < 8; col++) {
             size_t half = col < 7 ? 15 : 0;
             u[row * 8 + col] = (uint8_t)(30 * col + row);
-            v[row * 8 + col] = (uint8_t)(250 - 30 * col - row);
+            v[row * V_STRIDE + col] = (uint8_t)(250 - 30 * col - row);
             due[256 + row * 8 + col] = (uint8_t)(30 * col + row + half);
             due[320 + row * 8 + col] = (uint8_t)(250 - 30 * col - row - half);
         }

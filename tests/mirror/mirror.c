@@ -119,10 +119,9 @@ static void draw_picture(Picture *p)
 {
     p->cols = 1 + below(MOST_MBS);
     p->rows = 1 + below(MOST_MBS);
-    size_t chroma = below(9);
     draw_plane(&p->y, p->cols * 16, p->rows * 16, below(25));
-    draw_plane(&p->u, p->cols * 8, p->rows * 8, chroma);
-    draw_plane(&p->v, p->cols * 8, p->rows * 8, chroma);
+    draw_plane(&p->u, p->cols * 8, p->rows * 8, below(9));
+    draw_plane(&p->v, p->cols * 8, p->rows * 8, below(9));
 }
 
 /* ---- what a mirror makes of each */
@@ -201,7 +200,7 @@ static Answer call(Kind kind, const Picture *p, Place at, const Vector *vectors,
     memset(a.samples, 99, sizeof a.samples);
     if (kind == WHOLE) {
         a.number = threshowl_predict_whole(p->y.bytes, p->y.len, p->u.bytes, p->u.len, p->v.bytes, p->v.len,
-                                           p->y.stride, p->u.stride, p->cols, p->rows, at.col, at.row,
+                                           p->y.stride, p->u.stride, p->v.stride, p->cols, p->rows, at.col, at.row,
                                            vectors[0].row, vectors[0].col, filter, full_pixel,
                                            a.samples, sizeof a.samples);
         return a;
@@ -213,7 +212,7 @@ static Answer call(Kind kind, const Picture *p, Place at, const Vector *vectors,
     }
     a.number = (kind == SPLIT ? threshowl_predict_split : threshowl_predict_merging)(
         p->y.bytes, p->y.len, p->u.bytes, p->u.len, p->v.bytes, p->v.len, p->y.stride, p->u.stride,
-        p->cols, p->rows, at.col, at.row, bytes, sizeof bytes, filter, full_pixel, a.samples, sizeof a.samples);
+        p->v.stride, p->cols, p->rows, at.col, at.row, bytes, sizeof bytes, filter, full_pixel, a.samples, sizeof a.samples);
     return a;
 }
 

@@ -48,7 +48,9 @@ use original::motion_comp::{
 use sides::one_plane::{self, Place};
 use sides::pictures::{Geometry, Picture, Shows};
 use sides::random::Random;
-use sides::{in_order, original, taps, vector_bytes, Call, Form, Mv, Vectors, SAMPLES};
+use sides::{
+    at_one_stride, in_order, original, taps, vector_bytes, Call, Form, Mv, Vectors, SAMPLES,
+};
 
 struct Tape {
     bytes: Vec<u8>,
@@ -338,21 +340,24 @@ fn into(tape: &mut Tape, p: Place, mv: Mv, filter: u8, random: &mut Random) {
 
 // ---- Macroblocks ----
 
-/// Columns, rows, bytes between the rows of luma and of chroma, bytes beyond the
+/// Columns, rows, bytes between the rows of Y, and of U and V, bytes beyond the
 /// last sample, and what is shown.
-const PICTURES: [(usize, usize, usize, usize, usize, Shows); 12] = [
-    (1, 1, 0, 0, 0, Shows::Noise),
-    (1, 1, 4, 3, 7, Shows::Checkerboard),
-    (2, 1, 0, 0, 0, Shows::Noise),
-    (1, 2, 9, 1, 0, Shows::Noise),
-    (2, 2, 0, 0, 0, Shows::Noise),
-    (2, 2, 5, 12, 3, Shows::Noise),
-    (2, 2, 0, 0, 0, Shows::OneHot),
-    (2, 2, 0, 0, 1, Shows::OneValue),
-    (3, 1, 0, 2, 0, Shows::Checkerboard),
-    (1, 3, 1, 0, 0, Shows::Noise),
-    (4, 1, 0, 0, 0, Shows::Noise),
-    (3, 2, 3, 3, 0, Shows::Noise),
+const PICTURES: [(usize, usize, usize, [usize; 2], usize, Shows); 15] = [
+    (1, 1, 0, [0, 0], 0, Shows::Noise),
+    (1, 1, 4, [3, 3], 7, Shows::Checkerboard),
+    (2, 1, 0, [0, 0], 0, Shows::Noise),
+    (1, 2, 9, [1, 1], 0, Shows::Noise),
+    (2, 2, 0, [0, 0], 0, Shows::Noise),
+    (2, 2, 5, [12, 12], 3, Shows::Noise),
+    (2, 2, 0, [0, 0], 0, Shows::OneHot),
+    (2, 2, 0, [0, 0], 1, Shows::OneValue),
+    (3, 1, 0, [2, 2], 0, Shows::Checkerboard),
+    (1, 3, 1, [0, 0], 0, Shows::Noise),
+    (4, 1, 0, [0, 0], 0, Shows::Noise),
+    (3, 2, 3, [3, 3], 0, Shows::Noise),
+    (1, 1, 0, [0, 3], 0, Shows::Noise),
+    (2, 2, 5, [9, 2], 4, Shows::Noise),
+    (3, 2, 0, [1, 40], 0, Shows::Checkerboard),
 ];
 
 /// A version that asks for this filter and flag; 0 where none does.
@@ -391,15 +396,15 @@ const END_VECTORS: [Mv; 10] = [
 
 fn predictions(tape: &mut Tape, random: &mut Random) {
     let mut split_turn = 0;
-    for (cols, rows, y_between, uv_between, more, shows) in PICTURES {
+    for (cols, rows, y_between, [u_between, v_between], more, shows) in PICTURES {
         let geometry = Geometry::tight(cols, rows)
-            .with_strides_above_width(y_between, uv_between)
+            .with_each_stride_above_width(y_between, u_between, v_between)
             .with_more_bytes(more);
         let picture = Picture::new(shows, geometry, (0, 0), random);
         let g = picture.geometry;
         tape.plane(0, cols * 16, rows * 16, g.y_stride, &picture.y);
-        tape.plane(1, cols * 8, rows * 8, g.uv_stride, &picture.u);
-        tape.plane(2, cols * 8, rows * 8, g.uv_stride, &picture.v);
+        tape.plane(1, cols * 8, rows * 8, g.u_stride, &picture.u);
+        tape.plane(2, cols * 8, rows * 8, g.v_stride, &picture.v);
         let call = |vectors: Vectors, turn: usize, random: &mut Random| {
             let at = (turn % cols, random.below(rows));
             Call::on(
@@ -442,12 +447,12 @@ fn predicted(tape: &mut Tape, kind: u8, form: Form, c: &Call, bytes: usize, rand
         c.filter,
         version,
     ];
-    let answer = in_order(&original(form, c));
+    let answer = at_one_stride(c, |even| in_order(&original(form, even)));
     tape.add(kind, &[&head, &c.vectors.bytes[..bytes], &answer]);
 }
 
 fn whole_pixel(tape: &mut Tape, c: &Call) {
-    let (number, answer) = match one_plane::whole_pixel(c) {
+    let (number, answer) = match at_one_stride(c, one_plane::whole_pixel) {
         Some(samples) => (0, samples),
         None => (8, vec![0; SAMPLES]),
     };

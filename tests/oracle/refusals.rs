@@ -27,18 +27,23 @@ fn number_due(form: Form, c: &Call) -> u32 {
 pub fn planes_due(c: &Call) -> u32 {
     let wide = |n: usize| n as u128;
     let (cols, rows) = (wide(c.mb_cols), wide(c.mb_rows));
-    let (y_stride, uv_stride) = (wide(c.y_stride), wide(c.uv_stride));
+    let strides = [c.y_stride, c.u_stride, c.v_stride].map(wide);
+    let planes = [(c.y, 16), (c.u, 8), (c.v, 8)];
     let good_size = |n: u128| (1..=GREATEST_MB).contains(&n);
     let good_stride = |n: u128, width: u128| (width..=GREATEST_STRIDE).contains(&n);
     let short = |plane: &[u8], side: u128, stride: u128| {
         wide(plane.len()) < needed(cols * side, rows * side, stride)
     };
+    let mut each = planes.into_iter().zip(strides);
 
     if !good_size(cols) || !good_size(rows) {
         1
-    } else if !good_stride(y_stride, cols * 16) || !good_stride(uv_stride, cols * 8) {
+    } else if !each
+        .clone()
+        .all(|((_, side), stride)| good_stride(stride, cols * side))
+    {
         2
-    } else if short(c.y, 16, y_stride) || short(c.u, 8, uv_stride) || short(c.v, 8, uv_stride) {
+    } else if each.any(|((plane, side), stride)| short(plane, side, stride)) {
         3
     } else if c.mb_col >= c.mb_cols || c.mb_row >= c.mb_rows {
         4
@@ -145,10 +150,11 @@ const OUT_LENGTHS: &[Pick] = &[
     Is(TOP),
 ];
 
-const ARGUMENTS: usize = 13;
+const ARGUMENTS: usize = 14;
 const CHOICES: Choices<ARGUMENTS> = [
     SIZES,
     SIZES,
+    STRIDES,
     STRIDES,
     STRIDES,
     LENGTHS,
@@ -169,26 +175,27 @@ fn call<'a>(draft: &Draft<ARGUMENTS>, store: &'a Store, vectors: Vectors) -> Cal
     let (mb_cols, mb_rows) = (take(0, 0), take(1, 0));
     let cols = (mb_cols as u128).clamp(1, GREATEST_MB);
     let rows = (mb_rows as u128).clamp(1, GREATEST_MB);
-    let (y_stride, uv_stride) = (take(2, cols * 16), take(3, cols * 8));
+    let (y_stride, u_stride, v_stride) = (take(2, cols * 16), take(3, cols * 8), take(4, cols * 8));
     let need = |side: u128, stride: usize| {
         let stride = (stride as u128).clamp(cols * side, GREATEST_STRIDE);
         needed(cols * side, rows * side, stride)
     };
     Call {
-        y: part(&store.y, take(4, need(16, y_stride))),
-        u: part(&store.u, take(5, need(8, uv_stride))),
-        v: part(&store.v, take(6, need(8, uv_stride))),
+        y: part(&store.y, take(5, need(16, y_stride))),
+        u: part(&store.u, take(6, need(8, u_stride))),
+        v: part(&store.v, take(7, need(8, v_stride))),
         y_stride,
-        uv_stride,
+        u_stride,
+        v_stride,
         mb_cols,
         mb_rows,
-        mb_col: take(7, cols),
-        mb_row: take(8, rows),
-        filter: take(9, 0) as u8,
-        full_pixel: take(10, 0) as u8,
+        mb_col: take(8, cols),
+        mb_row: take(9, rows),
+        filter: take(10, 0) as u8,
+        full_pixel: take(11, 0) as u8,
         vectors,
-        vectors_len: take(11, 0),
-        out_len: take(12, 0),
+        vectors_len: take(12, 0),
+        out_len: take(13, 0),
     }
 }
 

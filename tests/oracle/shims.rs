@@ -10,7 +10,7 @@ use sides::one_plane::{self, Place};
 use sides::pictures::{Picture, Shows};
 use sides::random::Random;
 use sides::shims::{self, shim_interp, shim_split_chroma, shim_vector, shim_whole_pixel};
-use sides::{Call, Form, Mv, Vectors, SAMPLES};
+use sides::{at_one_stride, Call, Form, Mv, Vectors, SAMPLES};
 use Pick::{Is, Limit};
 
 // ---- Vectors ----
@@ -396,7 +396,9 @@ fn window(c: &OnPlane, length: usize) -> std::ops::Range<usize> {
 fn whole_pixel(random: &mut Random) -> Tally {
     let mut tally = Tally::new("predict_inter_mb_whole_pixel");
     for turn in 0..40_000 {
-        let geometry = random.pick(&layouts(1 + turn % 4, 1 + turn / 4 % 4));
+        let geometry = random
+            .pick(&layouts(1 + turn % 4, 1 + turn / 4 % 4))
+            .with_each_stride_above_width(0, random.below(3), random.below(3));
         let at = (
             random.below(geometry.mb_cols + 1),
             random.below(geometry.mb_rows + 1),
@@ -414,7 +416,8 @@ fn whole_pixel(random: &mut Random) -> Tally {
 
 fn check_whole_pixel(c: &Call, tally: &mut Tally) {
     let (number, due) = match planes_due(c) {
-        0 => one_plane::whole_pixel(c).map_or((8, vec![0; SAMPLES]), |samples| (0, samples)),
+        0 => at_one_stride(c, one_plane::whole_pixel)
+            .map_or((8, vec![0; SAMPLES]), |samples| (0, samples)),
         refused => (refused, vec![0; SAMPLES]),
     };
     let mv = c.vectors.list[0];
@@ -422,7 +425,7 @@ fn check_whole_pixel(c: &Call, tally: &mut Tally) {
     let outcome = written(number, &due, |out| unsafe {
         shim_whole_pixel(
             c.y.as_ptr(), c.y.len(), c.u.as_ptr(), c.u.len(), c.v.as_ptr(), c.v.len(),
-            c.y_stride, c.uv_stride, c.mb_cols, c.mb_rows, c.mb_col, c.mb_row,
+            c.y_stride, c.u_stride, c.v_stride, c.mb_cols, c.mb_rows, c.mb_col, c.mb_row,
             mv.row, mv.col, c.full_pixel, out, SAMPLES,
         )
     });

@@ -2,10 +2,10 @@
 // positions, pictures and splits.
 
 use crate::jobs::Job;
-use crate::tally::{written, Tally};
+use crate::tally::{untouched, written, Tally};
 use sides::pictures::{Geometry, Picture, Shows};
 use sides::random::Random;
-use sides::{in_order, original, product, Call, Form, Mv, Vectors};
+use sides::{at_one_stride, in_order, original, product, Call, Form, Mv, Vectors};
 
 /// Both tables, each with the flag off and on.
 const MODES: [(u8, u8); 4] = [(0, 0), (0, 1), (1, 0), (1, 1)];
@@ -48,13 +48,21 @@ impl Kind {
         }
     }
 
+    /// A call that is due to be refused.
+    fn refuse(&mut self, due: u32, call: &Call) {
+        for (form, tally) in &mut self.tallies {
+            let outcome = untouched(due, |out| unsafe { product(*form, call, out) });
+            tally.add(outcome, || words(*form, call));
+        }
+    }
+
     fn into_tallies(self) -> Vec<Tally> {
         self.tallies.into_iter().map(|(_, tally)| tally).collect()
     }
 }
 
 pub fn compare(form: Form, call: &Call, tally: &mut Tally) {
-    let expected = in_order(&original(form, call));
+    let expected = at_one_stride(call, |even| in_order(&original(form, even)));
     let outcome = written(0, &expected, |out| unsafe { product(form, call, out) });
     tally.add(outcome, || words(form, call));
 }
@@ -62,13 +70,14 @@ pub fn compare(form: Form, call: &Call, tally: &mut Tally) {
 /// A call in words, to find it again.
 pub fn words(form: Form, c: &Call) -> String {
     format!(
-        "{}, {}x{} macroblocks, strides {} {}, planes of {} {} {}, at column {} row {}, \
+        "{}, {}x{} macroblocks, strides {} {} {}, planes of {} {} {}, at column {} row {}, \
          filter {}, flag {}, {} bytes of vectors, output of {}, vectors (row, column) {}",
         form.name(),
         c.mb_cols,
         c.mb_rows,
         c.y_stride,
-        c.uv_stride,
+        c.u_stride,
+        c.v_stride,
         c.y.len(),
         c.u.len(),
         c.v.len(),
@@ -169,21 +178,28 @@ pub fn layouts(mb_cols: usize, mb_rows: usize) -> [Geometry; 4] {
     ]
 }
 
-/// Every position of every picture of 1x1 to 4x4 macroblocks, in each layout.
+/// Every position of every size of 1x1 to 4x4 macroblocks.
+fn at_every_place(mut visit: impl FnMut((usize, usize), (usize, usize))) {
+    for size in 0..16 {
+        let (mb_cols, mb_rows) = (1 + size % 4, 1 + size / 4);
+        for i in 0..mb_cols * mb_rows {
+            visit((mb_cols, mb_rows), (i % mb_cols, i / mb_cols));
+        }
+    }
+}
+
+/// Each of them, in each layout.
 fn at_every_position(
     shows: Shows,
     random: &mut Random,
     mut visit: impl FnMut(&Picture, (usize, usize), &mut Random),
 ) {
-    for size in 0..16 {
-        let (mb_cols, mb_rows) = (1 + size % 4, 1 + size / 4);
-        for at in (0..mb_cols * mb_rows).map(|i| (i % mb_cols, i / mb_cols)) {
-            for geometry in layouts(mb_cols, mb_rows) {
-                let picture = Picture::new(shows, geometry, at, random);
-                visit(&picture, at, random);
-            }
+    at_every_place(|(mb_cols, mb_rows), at| {
+        for geometry in layouts(mb_cols, mb_rows) {
+            let picture = Picture::new(shows, geometry, at, random);
+            visit(&picture, at, random);
         }
-    }
+    });
 }
 
 /// A component of at most twelve luma pixels.
@@ -333,12 +349,64 @@ fn splits(name: &str, draw: Draw, random: &mut Random) -> Kind {
     kind
 }
 
+/// Bytes between the rows of U and of V that differ: none on one side, some on
+/// both, and the rows of one plane apart by more than those of two.
+const APART: [(usize, usize); 5] = [(0, 3), (3, 0), (5, 2), (1, 40), (40, 1)];
+
+/// U and V with strides of their own, and exactly the bytes that each needs.
+fn strides_apart(shows: Shows, random: &mut Random) -> Kind {
+    let mut kind = Kind::of_all(&format!("U and V strides apart, {}", shows.name()));
+    at_every_place(|size, at| {
+        for (u, v) in APART {
+            let geometry = Geometry::tight(size.0, size.1).with_each_stride_above_width(7, u, v);
+            let picture = Picture::new(shows, geometry, at, random);
+            for turn in 0..12 {
+                let (filter, flag) = MODES[turn % 4];
+                let vectors = Vectors::new([near_vector(random); 16]);
+                kind.compare(&Call::on(&picture, at, vectors, filter, flag));
+                kind.compare(&Call::on(&picture, at, mixed(random), filter, flag));
+            }
+        }
+    });
+    kind
+}
+
+/// A fault of U or V alone.
+type Spoil = fn(&mut Call);
+
+const SPOILS: [(&str, u32, Spoil); 4] = [
+    ("U one byte short", 3, |c| c.u = &c.u[..c.u.len() - 1]),
+    ("V one byte short", 3, |c| c.v = &c.v[..c.v.len() - 1]),
+    ("U's stride one below", 2, |c| {
+        c.u_stride = c.mb_cols * 8 - 1
+    }),
+    ("V's stride one below", 2, |c| {
+        c.v_stride = c.mb_cols * 8 - 1
+    }),
+];
+
+/// The same pictures, with U alone or V alone at fault by its own stride.
+fn spoiled_apart((name, due, spoil): (&str, u32, Spoil), random: &mut Random) -> Kind {
+    let mut kind = Kind::of_all(&format!("U and V strides apart, {name}"));
+    at_every_place(|size, at| {
+        for (u, v) in APART {
+            let geometry = Geometry::tight(size.0, size.1).with_each_stride_above_width(7, u, v);
+            let picture = Picture::new(Shows::Noise, geometry, at, random);
+            let mut call = Call::on(&picture, at, mixed(random), 0, 0);
+            spoil(&mut call);
+            kind.refuse(due, &call);
+        }
+    });
+    kind
+}
+
 /// Strides of 32768, the greatest.
 fn greatest_strides(random: &mut Random) -> Kind {
     let mut kind = Kind::of_all("strides of 32768");
     let geometry = Geometry {
         y_stride: 32768,
-        uv_stride: 32768,
+        u_stride: 32768,
+        v_stride: 32768,
         ..Geometry::tight(2, 2)
     };
     let picture = Picture::new(Shows::Noise, geometry, (0, 0), random);
@@ -390,6 +458,8 @@ pub fn jobs() -> Vec<Job> {
     jobs.extend(SIDES.map(|side| job(move |random| far_on_side(side, random))));
     jobs.push(job(about_the_range));
     jobs.extend(SPLITS.map(|(name, draw)| job(move |random| splits(name, draw, random))));
+    jobs.extend(Shows::ALL.map(|shows| job(move |random| strides_apart(shows, random))));
+    jobs.extend(SPOILS.map(|fault| job(move |random| spoiled_apart(fault, random))));
     jobs.push(job(greatest_strides));
     jobs.push(job(every_flag));
     jobs

@@ -42,7 +42,7 @@ abbrev pub record-laws : (κs : Lfts 1) → LL.Laws (record-type κs)
 record-laws κs = T′.the-laws (namedLft 1 0 tt κs)
 
 abbrev pub sizes : ReferencePlanes → Sizes
-sizes d = record { «y_stride» = d .«y_stride»; «uv_stride» = d .«uv_stride»; «mb_cols» = d .«mb_cols»; «mb_rows» = d .«mb_rows» }
+sizes d = record { «y_stride» = d .«y_stride»; «u_stride» = d .«u_stride»; «v_stride» = d .«v_stride»; «mb_cols» = d .«mb_cols»; «mb_rows» = d .«mb_rows» }
 
 -- the callee has a lifetime for each slice: each is the record's, with a part of its share
 abbrev pub each : Lft → Lfts 3
@@ -67,8 +67,13 @@ module _ {M : Type 1} (𝓤 : URA M) (H : Heap 𝓤) (A : Atoms 𝓤) (W : Given
 
     sizes-are : WT (T′.lowered d) → Is Z.the-row (sizes d) (Z′.lowered (sizes d) ∷ [])
     sizes-are wt =
-        LL.owes Z.the-type Z′.the-laws (sizes d)
-        ((refl, wt .1 .1 .1 .0 .fits), ((refl, wt .1 .1 .1 .1 .0 .fits), ((refl, wt .1 .1 .1 .1 .1 .0 .fits), ((refl, wt .1 .1 .1 .1 .1 .1 .0 .fits), tt))))
+        LL.owes Z.the-type Z′.the-laws (sizes d) (
+          (refl, wt .1 .1 .1 .0 .fits),
+          (
+            (refl, wt .1 .1 .1 .1 .0 .fits),
+            ((refl, wt .1 .1 .1 .1 .1 .0 .fits), ((refl, wt .1 .1 .1 .1 .1 .1 .0 .fits), ((refl, wt .1 .1 .1 .1 .1 .1 .1 .0 .fits), tt))),
+          ),
+        )
 
     pub apart : (Ts : List RattleType) (xs : Denots Ts) (us : Valss Ts) → WT (T′.lowered d)
         → ent 𝓤 (sep 𝓤 (toks 𝓤 A 1 (κ, tt) (q, tt)) (sem 𝓤 H A (owns (record-row (κ, tt) ∷ Ts) (d, xs) (T′.lowered d ∷ [], us))))
@@ -78,7 +83,7 @@ module _ {M : Type 1} (𝓤 : URA M) (H : Heap 𝓤) (A : Atoms 𝓤) (W : Given
         (sliceVal (d .y .ptr) (length (d .y .now)) ∷ [], (sliceVal (d .u .ptr) (length (d .u .now)) ∷ [], (sliceVal (d .v .ptr) (length (d .v .now)) ∷ [], (Z′.lowered (sizes d) ∷ [], us)))))))
         (emp 𝓤))
     apart Ts xs us wt =
-        let fields : Values (record-type (κ, tt) .parts) = (d .y, (d .u, (d .v, (d .«y_stride», (d .«uv_stride», (d .«mb_cols», (d .«mb_rows», tt))))))) in
+        let fields : Values (record-type (κ, tt) .parts) = (d .y, (d .u, (d .v, (d .«y_stride», (d .«u_stride», (d .«v_stride», (d .«mb_cols», (d .«mb_rows», tt)))))))) in
         qed W ((‵ (flft κ q) ⊛ ‵ ftrue) ∷ ‵ (owns (record-row (κ, tt) ∷ Ts) (d, xs) (T′.lowered d ∷ [], us)) ∷ []) ∵
         move ! (1 ∷ []) $ fsplit ! $
         use1 W (given (T′.lowered d ∷ [] ≡ T′.lowered d ∷ []) (‵ (all-own (record-type (κ, tt) .parts) (record-laws (κ, tt)) fields)))

@@ -13,7 +13,8 @@ pub struct ReferencePlanes<'a> {
     pub u: &'a [u8],
     pub v: &'a [u8],
     pub y_stride: usize,
-    pub uv_stride: usize,
+    pub u_stride: usize,
+    pub v_stride: usize,
     pub mb_cols: usize,
     pub mb_rows: usize,
 }
@@ -25,7 +26,7 @@ pub fn predict_inter_mb_whole_pixel<'a>(
     luma_mv: Mv,
     full_pixel: bool,
 ) -> Prediction
-    ensures { λ r. ⌜ r ≡ wholePixel (fullPixel «full_pixel») (lent (now (reference .entry .y)) (now (reference .entry .u)) (now (reference .entry .v)) (record { «y_stride» = reference .entry .«y_stride»; «uv_stride» = reference .entry .«uv_stride»; «mb_cols» = reference .entry .«mb_cols»; «mb_rows» = reference .entry .«mb_rows» })) «mb_col» «mb_row» «luma_mv» ⌝ }
+    ensures { λ r. ⌜ r ≡ wholePixel (fullPixel «full_pixel») (lent (now (reference .entry .y)) (now (reference .entry .u)) (now (reference .entry .v)) (record { «y_stride» = reference .entry .«y_stride»; «u_stride» = reference .entry .«u_stride»; «v_stride» = reference .entry .«v_stride»; «mb_cols» = reference .entry .«mb_cols»; «mb_rows» = reference .entry .«mb_rows» })) «mb_col» «mb_row» «luma_mv» ⌝ }
 {
     prediction::predict_inter_mb_whole_pixel(
         reference.y,
@@ -33,7 +34,8 @@ pub fn predict_inter_mb_whole_pixel<'a>(
         reference.v,
         Sizes {
             y_stride: reference.y_stride,
-            uv_stride: reference.uv_stride,
+            u_stride: reference.u_stride,
+            v_stride: reference.v_stride,
             mb_cols: reference.mb_cols,
             mb_rows: reference.mb_rows,
         },
@@ -52,7 +54,7 @@ pub fn predict_inter_mb<'a>(
     full_pixel: bool,
     set: FilterSet,
 ) -> Prediction
-    ensures { λ r. ⌜ r ≡ whole set (fullPixel «full_pixel») (lent (now (reference .entry .y)) (now (reference .entry .u)) (now (reference .entry .v)) (record { «y_stride» = reference .entry .«y_stride»; «uv_stride» = reference .entry .«uv_stride»; «mb_cols» = reference .entry .«mb_cols»; «mb_rows» = reference .entry .«mb_rows» })) «mb_col» «mb_row» «luma_mv» ⌝ }
+    ensures { λ r. ⌜ r ≡ whole set (fullPixel «full_pixel») (lent (now (reference .entry .y)) (now (reference .entry .u)) (now (reference .entry .v)) (record { «y_stride» = reference .entry .«y_stride»; «u_stride» = reference .entry .«u_stride»; «v_stride» = reference .entry .«v_stride»; «mb_cols» = reference .entry .«mb_cols»; «mb_rows» = reference .entry .«mb_rows» })) «mb_col» «mb_row» «luma_mv» ⌝ }
 {
     prediction::predict_inter_mb(
         reference.y,
@@ -60,7 +62,8 @@ pub fn predict_inter_mb<'a>(
         reference.v,
         Sizes {
             y_stride: reference.y_stride,
-            uv_stride: reference.uv_stride,
+            u_stride: reference.u_stride,
+            v_stride: reference.v_stride,
             mb_cols: reference.mb_cols,
             mb_rows: reference.mb_rows,
         },
@@ -80,7 +83,7 @@ pub fn predict_split_mv<'a>(
     full_pixel: bool,
     set: FilterSet,
 ) -> Prediction
-    ensures { λ r. ⌜ r ≡ split set (fullPixel «full_pixel») (lent (now (reference .entry .y)) (now (reference .entry .u)) (now (reference .entry .v)) (record { «y_stride» = reference .entry .«y_stride»; «uv_stride» = reference .entry .«uv_stride»; «mb_cols» = reference .entry .«mb_cols»; «mb_rows» = reference .entry .«mb_rows» })) «mb_col» «mb_row» «split_luma_mvs» ⌝ }
+    ensures { λ r. ⌜ r ≡ split set (fullPixel «full_pixel») (lent (now (reference .entry .y)) (now (reference .entry .u)) (now (reference .entry .v)) (record { «y_stride» = reference .entry .«y_stride»; «u_stride» = reference .entry .«u_stride»; «v_stride» = reference .entry .«v_stride»; «mb_cols» = reference .entry .«mb_cols»; «mb_rows» = reference .entry .«mb_rows» })) «mb_col» «mb_row» «split_luma_mvs» ⌝ }
 {
     prediction::predict_split_mv(
         reference.y,
@@ -88,7 +91,8 @@ pub fn predict_split_mv<'a>(
         reference.v,
         Sizes {
             y_stride: reference.y_stride,
-            uv_stride: reference.uv_stride,
+            u_stride: reference.u_stride,
+            v_stride: reference.v_stride,
             mb_cols: reference.mb_cols,
             mb_rows: reference.mb_rows,
         },

@@ -58,17 +58,17 @@ module _ (y u v : List ℕ) (s : Sizes) (col row : ℕ) (A : Accepts (lent y u v
     luma-starts = starts-at s col row 16 e y (s .«y_stride») (place-starts 16 _ (omega arith) (luma-accepted (lent y u v s) col row A))
 
   module _ {p : Place} (e : p ≡ at s col row 8) where
-    pub u-at : planeRefusal (planeOf u (s .«uv_stride») (p .w) (p .h)) (p .x) (p .y) ≡ 0
-    u-at = refusal-at s col row 8 e u (s .«uv_stride») (u-start (lent y u v s) col row A)
+    pub u-at : planeRefusal (planeOf u (s .«u_stride») (p .w) (p .h)) (p .x) (p .y) ≡ 0
+    u-at = refusal-at s col row 8 e u (s .«u_stride») (u-start (lent y u v s) col row A)
 
-    pub v-at : planeRefusal (planeOf v (s .«uv_stride») (p .w) (p .h)) (p .x) (p .y) ≡ 0
-    v-at = refusal-at s col row 8 e v (s .«uv_stride») (v-start (lent y u v s) col row A)
+    pub v-at : planeRefusal (planeOf v (s .«v_stride») (p .w) (p .h)) (p .x) (p .y) ≡ 0
+    v-at = refusal-at s col row 8 e v (s .«v_stride») (v-start (lent y u v s) col row A)
 
-    pub u-starts : Starts (planeOf u (s .«uv_stride») (p .w) (p .h)) (p .x) (p .y) 8
-    u-starts = starts-at s col row 8 e u (s .«uv_stride») (place-starts 8 _ (omega arith) (u-accepted (lent y u v s) col row A))
+    pub u-starts : Starts (planeOf u (s .«u_stride») (p .w) (p .h)) (p .x) (p .y) 8
+    u-starts = starts-at s col row 8 e u (s .«u_stride») (place-starts 8 _ (omega arith) (u-accepted (lent y u v s) col row A))
 
-    pub v-starts : Starts (planeOf v (s .«uv_stride») (p .w) (p .h)) (p .x) (p .y) 8
-    v-starts = starts-at s col row 8 e v (s .«uv_stride») (place-starts 8 _ (omega arith) (v-accepted (lent y u v s) col row A))
+    pub v-starts : Starts (planeOf v (s .«v_stride») (p .w) (p .h)) (p .x) (p .y) 8
+    v-starts = starts-at s col row 8 e v (s .«v_stride») (place-starts 8 _ (omega arith) (v-accepted (lent y u v s) col row A))
 
 -- three planes' samples
 pub three : {a a′ b b′ c c′ : List ℕ} → a ≡ a′ → b ≡ b′ → c ≡ c′ → _≡_ {A = ReconstructedMb} (record { y = a; u = b; v = c }) (record { y = a′; u = b′; v = c′ })

@@ -65,7 +65,7 @@ pub fn predict_inter_mb(
             y: block_of_16(y, sizes.y_stride, y_at.w, y_at.h, y_at.x, y_at.y, luma, set),
             u: block_of_8(
                 u,
-                sizes.uv_stride,
+                sizes.u_stride,
                 uv_at.w,
                 uv_at.h,
                 uv_at.x,
@@ -75,7 +75,7 @@ pub fn predict_inter_mb(
             ),
             v: block_of_8(
                 v,
-                sizes.uv_stride,
+                sizes.v_stride,
                 uv_at.w,
                 uv_at.h,
                 uv_at.x,
@@ -129,7 +129,7 @@ pub fn predict_inter_mb_whole_pixel(
             y: pixels_of_16(y, sizes.y_stride, y_at.w, y_at.h, y_at.x, y_at.y, luma),
             u: pixels_of_8(
                 u,
-                sizes.uv_stride,
+                sizes.u_stride,
                 uv_at.w,
                 uv_at.h,
                 uv_at.x,
@@ -138,7 +138,7 @@ pub fn predict_inter_mb_whole_pixel(
             ),
             v: pixels_of_8(
                 v,
-                sizes.uv_stride,
+                sizes.v_stride,
                 uv_at.w,
                 uv_at.h,
                 uv_at.x,
@@ -186,7 +186,7 @@ pub fn predict_split_mv(
             ),
             u: split_chroma(
                 u,
-                sizes.uv_stride,
+                sizes.u_stride,
                 uv_at.w,
                 uv_at.h,
                 uv_at.x,
@@ -196,7 +196,7 @@ pub fn predict_split_mv(
             ),
             v: split_chroma(
                 v,
-                sizes.uv_stride,
+                sizes.v_stride,
                 uv_at.w,
                 uv_at.h,
                 uv_at.x,

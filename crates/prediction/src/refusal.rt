@@ -59,8 +59,8 @@ pub fn refusal(y: &[u8], u: &[u8], v: &[u8], sizes: Sizes, mb_col: usize, mb_row
         return 1;
     }
     let of_y = plane_refusal(y, sizes.y_stride, cols * 16, rows * 16, 0, 0);
-    let of_u = plane_refusal(u, sizes.uv_stride, cols * 8, rows * 8, 0, 0);
-    let of_v = plane_refusal(v, sizes.uv_stride, cols * 8, rows * 8, 0, 0);
+    let of_u = plane_refusal(u, sizes.u_stride, cols * 8, rows * 8, 0, 0);
+    let of_v = plane_refusal(v, sizes.v_stride, cols * 8, rows * 8, 0, 0);
     let of_planes = lowest(of_y, lowest(of_u, of_v));
     if of_planes != 0 {
         return of_planes;

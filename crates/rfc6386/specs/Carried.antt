@@ -68,7 +68,7 @@ firstOf ref =
       y = ref .y .bytes;
       u = ref .u .bytes;
       v = ref .v .bytes;
-      sizes = record { «mb_cols» = 1; «mb_rows» = 1; «y_stride» = 16; «uv_stride» = 8 };
+      sizes = record { «mb_cols» = 1; «mb_rows» = 1; «y_stride» = 16; «u_stride» = 8; «v_stride» = 8 };
       col = 0;
       row = 0;
     }

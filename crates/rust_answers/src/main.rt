@@ -10,7 +10,7 @@ mod report;
 mod tally;
 
 // Room for more than the file has, so that bytes after its end are noticed.
-const ROOM: usize = 409600;
+const ROOM: usize = 524288;
 
 fn main() {
     let path = b"answers.bin";

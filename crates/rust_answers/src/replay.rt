@@ -123,7 +123,8 @@ fn held(file: &[u8], kind: u8, r: &[u8], s: State) -> Tally {
     }
     let sizes = Sizes {
         y_stride: y.stride,
-        uv_stride: u.stride,
+        u_stride: u.stride,
+        v_stride: v.stride,
         mb_cols: y.w / 16,
         mb_rows: y.h / 16,
     };

@@ -134,7 +134,8 @@ pub extern "C" fn shim_whole_pixel(
     u: &[u8],
     v: &[u8],
     y_stride: usize,
-    uv_stride: usize,
+    u_stride: usize,
+    v_stride: usize,
     mb_cols: usize,
     mb_rows: usize,
     mb_col: usize,
@@ -146,7 +147,8 @@ pub extern "C" fn shim_whole_pixel(
 ) -> u32 {
     let sizes = Sizes {
         y_stride,
-        uv_stride,
+        u_stride,
+        v_stride,
         mb_cols,
         mb_rows,
     };

@@ -55,7 +55,8 @@ pub extern "C" fn threshowl_predict_whole(
     u: &[u8],
     v: &[u8],
     y_stride: usize,
-    uv_stride: usize,
+    u_stride: usize,
+    v_stride: usize,
     mb_cols: usize,
     mb_rows: usize,
     mb_col: usize,
@@ -66,11 +67,12 @@ pub extern "C" fn threshowl_predict_whole(
     full_pixel: u8,
     out: &mut [u8],
 ) -> u32
-    ensures { λ r. ⌜ Left (whole (setOf filter) (fullPixel (flagOf «full_pixel»)) (lent (now (y .entry)) (now (u .entry)) (now (v .entry)) (record { «y_stride» = «y_stride»; «uv_stride» = «uv_stride»; «mb_cols» = «mb_cols»; «mb_rows» = «mb_rows» })) «mb_col» «mb_row» (record { row = «mv_row»; col = «mv_col» })) (codeRefusal filter) (now (out .entry)) r (now (out .exit)) ⌝ }
+    ensures { λ r. ⌜ Left (whole (setOf filter) (fullPixel (flagOf «full_pixel»)) (lent (now (y .entry)) (now (u .entry)) (now (v .entry)) (record { «y_stride» = «y_stride»; «u_stride» = «u_stride»; «v_stride» = «v_stride»; «mb_cols» = «mb_cols»; «mb_rows» = «mb_rows» })) «mb_col» «mb_row» (record { row = «mv_row»; col = «mv_col» })) (codeRefusal filter) (now (out .entry)) r (now (out .exit)) ⌝ }
 {
     let sizes = Sizes {
         y_stride,
-        uv_stride,
+        u_stride,
+        v_stride,
         mb_cols,
         mb_rows,
     };
@@ -98,7 +100,8 @@ pub extern "C" fn threshowl_predict_split(
     u: &[u8],
     v: &[u8],
     y_stride: usize,
-    uv_stride: usize,
+    u_stride: usize,
+    v_stride: usize,
     mb_cols: usize,
     mb_rows: usize,
     mb_col: usize,
@@ -108,11 +111,12 @@ pub extern "C" fn threshowl_predict_split(
     full_pixel: u8,
     out: &mut [u8],
 ) -> u32
-    ensures { λ r. ⌜ Left (split (setOf filter) (fullPixel (flagOf «full_pixel»)) (lent (now (y .entry)) (now (u .entry)) (now (v .entry)) (record { «y_stride» = «y_stride»; «uv_stride» = «uv_stride»; «mb_cols» = «mb_cols»; «mb_rows» = «mb_rows» })) «mb_col» «mb_row» (vectorsOf (now (vectors .entry)))) (codesRefusal filter (length (now (vectors .entry)))) (now (out .entry)) r (now (out .exit)) ⌝ }
+    ensures { λ r. ⌜ Left (split (setOf filter) (fullPixel (flagOf «full_pixel»)) (lent (now (y .entry)) (now (u .entry)) (now (v .entry)) (record { «y_stride» = «y_stride»; «u_stride» = «u_stride»; «v_stride» = «v_stride»; «mb_cols» = «mb_cols»; «mb_rows» = «mb_rows» })) «mb_col» «mb_row» (vectorsOf (now (vectors .entry)))) (codesRefusal filter (length (now (vectors .entry)))) (now (out .entry)) r (now (out .exit)) ⌝ }
 {
     let sizes = Sizes {
         y_stride,
-        uv_stride,
+        u_stride,
+        v_stride,
         mb_cols,
         mb_rows,
     };
@@ -139,7 +143,8 @@ pub extern "C" fn threshowl_predict_merging(
     u: &[u8],
     v: &[u8],
     y_stride: usize,
-    uv_stride: usize,
+    u_stride: usize,
+    v_stride: usize,
     mb_cols: usize,
     mb_rows: usize,
     mb_col: usize,
@@ -149,7 +154,7 @@ pub extern "C" fn threshowl_predict_merging(
     full_pixel: u8,
     out: &mut [u8],
 ) -> u32
-    ensures { λ r. ⌜ Left (split (setOf filter) (fullPixel (flagOf «full_pixel»)) (lent (now (y .entry)) (now (u .entry)) (now (v .entry)) (record { «y_stride» = «y_stride»; «uv_stride» = «uv_stride»; «mb_cols» = «mb_cols»; «mb_rows» = «mb_rows» })) «mb_col» «mb_row» (vectorsOf (now (vectors .entry)))) (codesRefusal filter (length (now (vectors .entry)))) (now (out .entry)) r (now (out .exit)) ⌝ }
+    ensures { λ r. ⌜ Left (split (setOf filter) (fullPixel (flagOf «full_pixel»)) (lent (now (y .entry)) (now (u .entry)) (now (v .entry)) (record { «y_stride» = «y_stride»; «u_stride» = «u_stride»; «v_stride» = «v_stride»; «mb_cols» = «mb_cols»; «mb_rows» = «mb_rows» })) «mb_col» «mb_row» (vectorsOf (now (vectors .entry)))) (codesRefusal filter (length (now (vectors .entry)))) (now (out .entry)) r (now (out .exit)) ⌝ }
 {
     let mvs = mvs_of_bytes(vectors);
     if vectors.len() == 64 && are_one(mvs) {
@@ -159,7 +164,8 @@ pub extern "C" fn threshowl_predict_merging(
             u,
             v,
             y_stride,
-            uv_stride,
+            u_stride,
+            v_stride,
             mb_cols,
             mb_rows,
             mb_col,
@@ -176,7 +182,8 @@ pub extern "C" fn threshowl_predict_merging(
         u,
         v,
         y_stride,
-        uv_stride,
+        u_stride,
+        v_stride,
         mb_cols,
         mb_rows,
         mb_col,

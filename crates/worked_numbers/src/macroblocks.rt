@@ -61,7 +61,8 @@ fn sizes_line(sizes: Sizes, col: usize, row: usize) {
     labelled(b"", sizes.mb_cols);
     labelled(b" by ", sizes.mb_rows);
     labelled(b" macroblocks, strides ", sizes.y_stride);
-    labelled(b" and ", sizes.uv_stride);
+    labelled(b" ", sizes.u_stride);
+    labelled(b" ", sizes.v_stride);
     labelled(b", at ", col);
     labelled(b" ", row);
 }
@@ -80,7 +81,8 @@ fn all_six(y: &[u8], u: &[u8], v: &[u8], sizes: Sizes, col: usize, row: usize) {
 fn luma(y: &[u8], y_stride: usize, col: usize, row: usize) {
     let sizes = Sizes {
         y_stride,
-        uv_stride: 8,
+        u_stride: 8,
+        v_stride: 8,
         mb_cols: 1,
         mb_rows: 1,
     };
@@ -89,10 +91,11 @@ fn luma(y: &[u8], y_stride: usize, col: usize, row: usize) {
 }
 
 // One whose luma plane is.
-fn chroma(u: &[u8], v: &[u8], uv_stride: usize) {
+fn chroma(u: &[u8], v: &[u8], u_stride: usize, v_stride: usize) {
     let sizes = Sizes {
         y_stride: 16,
-        uv_stride,
+        u_stride,
+        v_stride,
         mb_cols: 1,
         mb_rows: 1,
     };
@@ -104,7 +107,8 @@ fn chroma(u: &[u8], v: &[u8], uv_stride: usize) {
 fn size(mb_cols: usize, mb_rows: usize) {
     let sizes = Sizes {
         y_stride: 16384,
-        uv_stride: 8192,
+        u_stride: 8192,
+        v_stride: 8192,
         mb_cols,
         mb_rows,
     };
@@ -114,9 +118,15 @@ fn size(mb_cols: usize, mb_rows: usize) {
 fn bytes() {
     luma(&[200u8; 316], 20, 0, 0);
     luma(&[200u8; 315], 20, 0, 0);
-    chroma(&[200u8; 78], &[200u8; 78], 10);
-    chroma(&[200u8; 77], &[200u8; 78], 10);
-    chroma(&[200u8; 78], &[200u8; 77], 10);
+    chroma(&[200u8; 78], &[200u8; 78], 10, 10);
+    chroma(&[200u8; 77], &[200u8; 78], 10, 10);
+    chroma(&[200u8; 78], &[200u8; 77], 10, 10);
+    chroma(&[200u8; 64], &[200u8; 78], 8, 10);
+    chroma(&[200u8; 63], &[200u8; 78], 8, 10);
+    chroma(&[200u8; 64], &[200u8; 77], 8, 10);
+    chroma(&[200u8; 78], &[200u8; 64], 10, 8);
+    chroma(&[200u8; 77], &[200u8; 64], 10, 8);
+    chroma(&[200u8; 78], &[200u8; 63], 10, 8);
 }
 
 fn counts() {
@@ -133,9 +143,13 @@ fn strides() {
     luma(&[200u8; 16], 32768, 0, 0);
     luma(&[200u8; 16], 32769, 0, 0);
     luma(&[200u8; 316], 15, 0, 0);
-    chroma(&[200u8; 8], &[200u8; 8], 32768);
-    chroma(&[200u8; 8], &[200u8; 8], 32769);
-    chroma(&[200u8; 78], &[200u8; 78], 7);
+    chroma(&[200u8; 8], &[200u8; 8], 32768, 32768);
+    chroma(&[200u8; 8], &[200u8; 8], 32769, 32769);
+    chroma(&[200u8; 78], &[200u8; 78], 7, 7);
+    chroma(&[200u8; 78], &[200u8; 78], 8, 7);
+    chroma(&[200u8; 78], &[200u8; 78], 7, 8);
+    chroma(&[200u8; 78], &[200u8; 78], 8, 32769);
+    chroma(&[200u8; 78], &[200u8; 78], 32769, 8);
 }
 
 fn places() {
@@ -150,7 +164,8 @@ fn places() {
 fn two_planes() {
     let sizes = Sizes {
         y_stride: 16,
-        uv_stride: 7,
+        u_stride: 7,
+        v_stride: 7,
         mb_cols: 1,
         mb_rows: 1,
     };
@@ -160,7 +175,8 @@ fn two_planes() {
 fn whole_pixel(what: &[u8], row: i16, col: i16, full_pixel: bool) {
     let sizes = Sizes {
         y_stride: 16,
-        uv_stride: 8,
+        u_stride: 8,
+        v_stride: 8,
         mb_cols: 1,
         mb_rows: 1,
     };

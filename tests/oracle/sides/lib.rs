@@ -70,7 +70,8 @@ pub struct Call<'a> {
     pub u: &'a [u8],
     pub v: &'a [u8],
     pub y_stride: usize,
-    pub uv_stride: usize,
+    pub u_stride: usize,
+    pub v_stride: usize,
     pub mb_cols: usize,
     pub mb_rows: usize,
     pub mb_col: usize,
@@ -97,7 +98,8 @@ impl<'a> Call<'a> {
             u: &picture.u,
             v: &picture.v,
             y_stride: g.y_stride,
-            uv_stride: g.uv_stride,
+            u_stride: g.u_stride,
+            v_stride: g.v_stride,
             mb_cols: g.mb_cols,
             mb_rows: g.mb_rows,
             mb_col: at.0,
@@ -115,17 +117,20 @@ impl<'a> Call<'a> {
 extern "C" {
     fn threshowl_predict_whole(
         y: *const u8, y_len: usize, u: *const u8, u_len: usize, v: *const u8, v_len: usize,
-        y_stride: usize, uv_stride: usize, mb_cols: usize, mb_rows: usize, mb_col: usize, mb_row: usize,
+        y_stride: usize, u_stride: usize, v_stride: usize,
+        mb_cols: usize, mb_rows: usize, mb_col: usize, mb_row: usize,
         mv_row: i16, mv_col: i16, filter: u8, full_pixel: u8, out: *mut u8, out_len: usize,
     ) -> u32;
     fn threshowl_predict_split(
         y: *const u8, y_len: usize, u: *const u8, u_len: usize, v: *const u8, v_len: usize,
-        y_stride: usize, uv_stride: usize, mb_cols: usize, mb_rows: usize, mb_col: usize, mb_row: usize,
+        y_stride: usize, u_stride: usize, v_stride: usize,
+        mb_cols: usize, mb_rows: usize, mb_col: usize, mb_row: usize,
         vectors: *const u8, vectors_len: usize, filter: u8, full_pixel: u8, out: *mut u8, out_len: usize,
     ) -> u32;
     fn threshowl_predict_merging(
         y: *const u8, y_len: usize, u: *const u8, u_len: usize, v: *const u8, v_len: usize,
-        y_stride: usize, uv_stride: usize, mb_cols: usize, mb_rows: usize, mb_col: usize, mb_row: usize,
+        y_stride: usize, u_stride: usize, v_stride: usize,
+        mb_cols: usize, mb_rows: usize, mb_col: usize, mb_row: usize,
         vectors: *const u8, vectors_len: usize, filter: u8, full_pixel: u8, out: *mut u8, out_len: usize,
     ) -> u32;
 }
@@ -143,25 +148,47 @@ pub unsafe fn product(form: Form, call: &Call, out: *mut u8) -> u32 {
         let mv = c.vectors.list[0];
         return threshowl_predict_whole(
             y, c.y.len(), u, c.u.len(), v, c.v.len(),
-            c.y_stride, c.uv_stride, c.mb_cols, c.mb_rows, c.mb_col, c.mb_row,
+            c.y_stride, c.u_stride, c.v_stride, c.mb_cols, c.mb_rows, c.mb_col, c.mb_row,
             mv.row, mv.col, c.filter, c.full_pixel, out, c.out_len,
         );
     }
     let predict = if form == Form::Split { threshowl_predict_split } else { threshowl_predict_merging };
     predict(
         y, c.y.len(), u, c.u.len(), v, c.v.len(),
-        c.y_stride, c.uv_stride, c.mb_cols, c.mb_rows, c.mb_col, c.mb_row,
+        c.y_stride, c.u_stride, c.v_stride, c.mb_cols, c.mb_rows, c.mb_col, c.mb_row,
         c.vectors.bytes.as_ptr(), c.vectors_len, c.filter, c.full_pixel, out, c.out_len,
     )
 }
 
+/// What `found` makes of the call with one stride for U and V, as the original
+/// has it: where they differ, of the same samples without gaps.
+pub fn at_one_stride<T>(call: &Call, found: impl FnOnce(&Call) -> T) -> T {
+    if call.u_stride == call.v_stride {
+        return found(call);
+    }
+    let (width, height) = (call.mb_cols * 8, call.mb_rows * 8);
+    let packed = |plane: &[u8], stride: usize| -> Vec<u8> {
+        let row = |r: usize| &plane[r * stride..r * stride + width];
+        (0..height).flat_map(row).copied().collect()
+    };
+    let (u, v) = (packed(call.u, call.u_stride), packed(call.v, call.v_stride));
+    found(&Call {
+        u: &u,
+        v: &v,
+        u_stride: width,
+        v_stride: width,
+        ..*call
+    })
+}
+
+/// The original's planes; U and V have one stride.
 pub fn reference<'a>(call: &Call<'a>) -> ReferencePlanes<'a> {
     ReferencePlanes {
         y: call.y,
         u: call.u,
         v: call.v,
         y_stride: call.y_stride,
-        uv_stride: call.uv_stride,
+        uv_stride: call.u_stride,
         mb_cols: call.mb_cols,
         mb_rows: call.mb_rows,
     }
@@ -176,7 +203,8 @@ pub fn taps(filter: u8) -> &'static [[i32; 6]; 8] {
     }
 }
 
-/// The original's prediction; the call must be in order.
+/// The original's prediction; the call must be in order, with one stride for U
+/// and V.
 #[inline]
 pub fn original(form: Form, call: &Call) -> ReconstructedMb {
     let (planes, flag, table) = (reference(call), call.full_pixel != 0, taps(call.filter));

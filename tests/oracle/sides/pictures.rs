@@ -10,7 +10,8 @@ pub struct Geometry {
     pub mb_cols: usize,
     pub mb_rows: usize,
     pub y_stride: usize,
-    pub uv_stride: usize,
+    pub u_stride: usize,
+    pub v_stride: usize,
     pub more: usize,
 }
 
@@ -21,15 +22,21 @@ impl Geometry {
             mb_cols,
             mb_rows,
             y_stride: mb_cols * 16,
-            uv_stride: mb_cols * 8,
+            u_stride: mb_cols * 8,
+            v_stride: mb_cols * 8,
             more: 0,
         }
     }
 
     pub fn with_strides_above_width(self, y: usize, uv: usize) -> Geometry {
+        self.with_each_stride_above_width(y, uv, uv)
+    }
+
+    pub fn with_each_stride_above_width(self, y: usize, u: usize, v: usize) -> Geometry {
         Geometry {
             y_stride: self.y_stride + y,
-            uv_stride: self.uv_stride + uv,
+            u_stride: self.u_stride + u,
+            v_stride: self.v_stride + v,
             ..self
         }
     }
@@ -90,8 +97,8 @@ impl Picture {
             painted(shows, (w, h), stride, g.more, near, random)
         };
         let y = plane(16, g.y_stride);
-        let u = plane(8, g.uv_stride);
-        let v = plane(8, g.uv_stride);
+        let u = plane(8, g.u_stride);
+        let v = plane(8, g.v_stride);
         Picture { geometry, y, u, v }
     }
 }

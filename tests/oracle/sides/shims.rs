@@ -33,7 +33,8 @@ extern "C" {
     pub fn shim_split_chroma(vectors: *const u8, len: usize, out: *mut u8, out_len: usize) -> u32;
     pub fn shim_whole_pixel(
         y: *const u8, y_len: usize, u: *const u8, u_len: usize, v: *const u8, v_len: usize,
-        y_stride: usize, uv_stride: usize, mb_cols: usize, mb_rows: usize, mb_col: usize, mb_row: usize,
+        y_stride: usize, u_stride: usize, v_stride: usize,
+        mb_cols: usize, mb_rows: usize, mb_col: usize, mb_row: usize,
         mv_row: i16, mv_col: i16, full_pixel: u8, out: *mut u8, out_len: usize,
     ) -> u32;
 }

@@ -100,45 +100,48 @@ module _ {M : Type 1} (𝓤 : URA M) (H : Heap 𝓤) (A : Atoms 𝓤) (mem : Mem
         qed W (raw (onEntry 𝓤 H A entry.signature (κ, tt) (q, tt) args at) ∷ []) ∵ enter ! C Λ code.function
         (T′.lowered d ∷ vint w64 col ∷ vint w64 row ∷ E′.lowered mv ∷ vbool flag ∷ []) _ $
         alloc1 ! (λ l0. alloc1 ! (λ l1. alloc1 ! (λ l2. alloc1 ! (λ l3. alloc1 ! (λ l4. alloc1 ! (λ l5. alloc1 ! (λ l6. alloc1 ! (λ l7. alloc1 ! (λ l8.
-        alloc1 ! (λ l9. alloc1 ! (λ l10. alloc1 ! (λ l11. alloc1 ! (λ l12. alloc1 ! (λ l13. alloc0 ! $
-        params1 ! $ pass1 ! (init ! 24 refl wt) $ pass1 ! (init ! 22 refl (uint-lawful 𝓤 H A W w64 .typed col _ is-col .0)) $
-        pass1 ! (init ! 20 refl (uint-lawful 𝓤 H A W w64 .typed row _ is-row .0)) $
-        pass1 ! (init ! 18 refl (LL.lawful E.the-type E′.the-laws 𝓤 H A W .typed mv _ is-mv .0)) $
-        pass1 ! (init ! 16 refl (bool-lawful 𝓤 H A W .typed flag _ is-flag .0)) $ pass0 ! $
-        assigns ! (of-opd ! (load ! (from ! (fld ! refl (stop !))) (look-in ! 24 (sub ! 0 refl (whole !))))) (from ! (stop !)) (init ! 14 refl (tt, wt .1 .0)) $
-        assigns ! (of-opd ! (load ! (from ! (fld ! refl (stop !))) (look-in ! 24 (sub ! 1 refl (whole !))))) (from ! (stop !))
-        (init ! 12 refl (tt, wt .1 .1 .0)) $
-        assigns ! (of-opd ! (load ! (from ! (fld ! refl (stop !))) (look-in ! 24 (sub ! 2 refl (whole !))))) (from ! (stop !))
-        (init ! 10 refl (tt, wt .1 .1 .1 .0)) $
-        assigns ! (of-opd ! (load ! (from ! (fld ! refl (stop !))) (look-in ! 24 (sub ! 3 refl (whole !))))) (from ! (stop !))
-        (init ! 8 refl (tt, wt .1 .1 .1 .1 .0)) $
-        assigns ! (of-opd ! (load ! (from ! (fld ! refl (stop !))) (look-in ! 24 (sub ! 4 refl (whole !))))) (from ! (stop !))
-        (init ! 6 refl (tt, wt .1 .1 .1 .1 .1 .0)) $
-        assigns ! (of-opd ! (load ! (from ! (fld ! refl (stop !))) (look-in ! 24 (sub ! 5 refl (whole !))))) (from ! (stop !))
-        (init ! 4 refl (tt, wt .1 .1 .1 .1 .1 .1 .0)) $
-        assigns ! (of-opd ! (load ! (from ! (fld ! refl (stop !))) (look-in ! 24 (sub ! 6 refl (whole !))))) (from ! (stop !))
-        (init ! 2 refl (tt, wt .1 .1 .1 .1 .1 .1 .1 .0)) $
-        assigns ! (agg ! (and-then ! (load ! (from ! (stop !)) (look ! 8 refl)) (and-then ! (load ! (from ! (stop !)) (look ! 6 refl))
-        (and-then ! (load ! (from ! (stop !)) (look ! 4 refl)) (and-then ! (load ! (from ! (stop !)) (look ! 2 refl)) (no-more !)))))) (from ! (stop !))
-        (init ! 0 refl (tt, (wt .1 .1 .1 .1 .0, (wt .1 .1 .1 .1 .1 .0, (wt .1 .1 .1 .1 .1 .1 .0, (wt .1 .1 .1 .1 .1 .1 .1 .0, tt)))))) $
+        alloc1 ! (λ l9. alloc1 ! (λ l10. alloc1 ! (λ l11. alloc1 ! (λ l12. alloc1 ! (λ l13. alloc1 ! (λ l14. alloc0 ! $
+        params1 ! $ pass1 ! (init ! 26 refl wt) $ pass1 ! (init ! 24 refl (uint-lawful 𝓤 H A W w64 .typed col _ is-col .0)) $
+        pass1 ! (init ! 22 refl (uint-lawful 𝓤 H A W w64 .typed row _ is-row .0)) $
+        pass1 ! (init ! 20 refl (LL.lawful E.the-type E′.the-laws 𝓤 H A W .typed mv _ is-mv .0)) $
+        pass1 ! (init ! 18 refl (bool-lawful 𝓤 H A W .typed flag _ is-flag .0)) $ pass0 ! $
+        assigns ! (of-opd ! (load ! (from ! (fld ! refl (stop !))) (look-in ! 26 (sub ! 0 refl (whole !))))) (from ! (stop !)) (init ! 16 refl (tt, wt .1 .0)) $
+        assigns ! (of-opd ! (load ! (from ! (fld ! refl (stop !))) (look-in ! 26 (sub ! 1 refl (whole !))))) (from ! (stop !))
+        (init ! 14 refl (tt, wt .1 .1 .0)) $
+        assigns ! (of-opd ! (load ! (from ! (fld ! refl (stop !))) (look-in ! 26 (sub ! 2 refl (whole !))))) (from ! (stop !))
+        (init ! 12 refl (tt, wt .1 .1 .1 .0)) $
+        assigns ! (of-opd ! (load ! (from ! (fld ! refl (stop !))) (look-in ! 26 (sub ! 3 refl (whole !))))) (from ! (stop !))
+        (init ! 10 refl (tt, wt .1 .1 .1 .1 .0)) $
+        assigns ! (of-opd ! (load ! (from ! (fld ! refl (stop !))) (look-in ! 26 (sub ! 4 refl (whole !))))) (from ! (stop !))
+        (init ! 8 refl (tt, wt .1 .1 .1 .1 .1 .0)) $
+        assigns ! (of-opd ! (load ! (from ! (fld ! refl (stop !))) (look-in ! 26 (sub ! 5 refl (whole !))))) (from ! (stop !))
+        (init ! 6 refl (tt, wt .1 .1 .1 .1 .1 .1 .0)) $
+        assigns ! (of-opd ! (load ! (from ! (fld ! refl (stop !))) (look-in ! 26 (sub ! 6 refl (whole !))))) (from ! (stop !))
+        (init ! 4 refl (tt, wt .1 .1 .1 .1 .1 .1 .1 .0)) $
+        assigns ! (of-opd ! (load ! (from ! (fld ! refl (stop !))) (look-in ! 26 (sub ! 7 refl (whole !))))) (from ! (stop !))
+        (init ! 2 refl (tt, wt .1 .1 .1 .1 .1 .1 .1 .1 .0)) $
+        assigns ! (agg ! (and-then ! (load ! (from ! (stop !)) (look ! 10 refl)) (and-then ! (load ! (from ! (stop !)) (look ! 8 refl))
+        (and-then ! (load ! (from ! (stop !)) (look ! 6 refl)) (and-then ! (load ! (from ! (stop !)) (look ! 4 refl))
+        (and-then ! (load ! (from ! (stop !)) (look ! 2 refl)) (no-more !))))))) (from ! (stop !))
+        (init ! 0 refl (tt, (wt .1 .1 .1 .1 .0, (wt .1 .1 .1 .1 .1 .0, (wt .1 .1 .1 .1 .1 .1 .0, (wt .1 .1 .1 .1 .1 .1 .1 .0, (wt .1 .1 .1 .1 .1 .1 .1 .1 .0, tt))))))) $
         -- [the locals; what is passed]
-        move ! (28 ∷ []) $ use1 W (raw (Core .pre there)) (apart 𝓤 H A W κ q d (usize ∷ usize ∷ E.the-row ∷ Boolean ∷ []) (args .1) (at .1) (wt .1)) $
+        move ! (30 ∷ []) $ use1 W (raw (Core .pre there)) (apart 𝓤 H A W κ q d (usize ∷ usize ∷ E.the-row ∷ Boolean ∷ []) (args .1) (at .1) (wt .1)) $
         calls-at ! fm Core known there
-        (and-then ! (load ! (from ! (stop !)) (look ! 15 refl)) (and-then ! (load ! (from ! (stop !)) (look ! 13 refl))
-        (and-then ! (load ! (from ! (stop !)) (look ! 11 refl)) (and-then ! (load ! (from ! (stop !)) (look ! 1 refl))
-        (and-then ! (load ! (from ! (stop !)) (look ! 23 refl)) (and-then ! (load ! (from ! (stop !)) (look ! 21 refl))
-        (and-then ! (load ! (from ! (stop !)) (look ! 19 refl)) (and-then ! (load ! (from ! (stop !)) (look ! 17 refl)) (no-more !))))))))) (λ u.
+        (and-then ! (load ! (from ! (stop !)) (look ! 17 refl)) (and-then ! (load ! (from ! (stop !)) (look ! 15 refl))
+        (and-then ! (load ! (from ! (stop !)) (look ! 13 refl)) (and-then ! (load ! (from ! (stop !)) (look ! 1 refl))
+        (and-then ! (load ! (from ! (stop !)) (look ! 25 refl)) (and-then ! (load ! (from ! (stop !)) (look ! 23 refl))
+        (and-then ! (load ! (from ! (stop !)) (look ! 21 refl)) (and-then ! (load ! (from ! (stop !)) (look ! 19 refl)) (no-more !))))))))) (λ u.
         answers ! tt core.ended (core.clauses 𝓤 H A mem run) there u (λ (r : Prediction). r ≡ found) (λ r ws. id⊢ 𝓤 _) (λ r e is-r.
         -- [the result; the tokens; the locals]
-        land ! (from ! (stop !)) (init ! 28 refl (LL.lawful S.the-type S′.the-laws 𝓤 H A W .typed r _ is-r .0)) $ returns ! (look ! 28 refl) $
+        land ! (from ! (stop !)) (init ! 30 refl (LL.lawful S.the-type S′.the-laws 𝓤 H A W .typed r _ is-r .0)) $ returns ! (look ! 30 refl) $
         forget ! 2 refl $ forget ! 4 refl $ forget ! 6 refl $ forget ! 8 refl $ forget ! 10 refl $ forget ! 12 refl $ forget ! 14 refl $ forget ! 16 refl $
-        forget ! 18 refl $ forget ! 20 refl $ forget ! 22 refl $ forget ! 24 refl $ forget ! 26 refl $ forget ! 28 refl $
-        move ! (28 ∷ 29 ∷ []) $ free1 ! $ move ! (26 ∷ 27 ∷ []) $ free1 ! $ move ! (24 ∷ 25 ∷ []) $ free1 ! $ move ! (22 ∷ 23 ∷ []) $ free1 ! $
+        forget ! 18 refl $ forget ! 20 refl $ forget ! 22 refl $ forget ! 24 refl $ forget ! 26 refl $ forget ! 28 refl $ forget ! 30 refl $
+        move ! (30 ∷ 31 ∷ []) $ free1 ! $ move ! (28 ∷ 29 ∷ []) $ free1 ! $ move ! (26 ∷ 27 ∷ []) $ free1 ! $ move ! (24 ∷ 25 ∷ []) $ free1 ! $ move ! (22 ∷ 23 ∷ []) $ free1 ! $
         move ! (20 ∷ 21 ∷ []) $ free1 ! $ move ! (18 ∷ 19 ∷ []) $ free1 ! $ move ! (16 ∷ 17 ∷ []) $ free1 ! $ move ! (14 ∷ 15 ∷ []) $ free1 ! $
         move ! (12 ∷ 13 ∷ []) $ free1 ! $ move ! (10 ∷ 11 ∷ []) $ free1 ! $ move ! (8 ∷ 9 ∷ []) $ free1 ! $ move ! (6 ∷ 7 ∷ []) $ free1 ! $
         move ! (4 ∷ 5 ∷ []) $ free1 ! $ move ! (2 ∷ 3 ∷ []) $ free1 ! $ free0 ! $
         move ! (1 ∷ []) $ use1 W (raw (toks 𝓤 A 1 (κ, tt) (q, tt))) (together 𝓤 H A W κ q) $ move ! (1 ∷ []) $
-        by ! (ends 𝓤 H A W entry.ended (entry.clauses 𝓤 H A mem run) here u r (tt, (tt, (tt, (tt, (tt, tt))))) (factI 𝓤 (r ≡ found) (emp 𝓤) e))))))))))))))))))
+        by ! (ends 𝓤 H A W entry.ended (entry.clauses 𝓤 H A mem run) here u r (tt, (tt, (tt, (tt, (tt, tt))))) (factI 𝓤 (r ≡ found) (emp 𝓤) e)))))))))))))))))))
 
 pub predict-inter-mb-whole-pixel-spec : {M : Type 1} → stated.statement M
 unfolding code.routine tablesOf

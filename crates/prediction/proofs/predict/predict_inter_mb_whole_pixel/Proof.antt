@@ -68,9 +68,9 @@ returns-2 c =
     (three
     (moved (λ p m. pixels 16 (image (planeOf (a .y .now) (s .«y_stride») (p .w) (p .h))) (p .x) (p .y) m)
     (at-y .pixels-of-16 .ensures) (y .place-of .ensures) (luma .luma-vector .ensures))
-    (moved (λ p m. pixels 8 (image (planeOf (a .u .now) (s .«uv_stride») (p .w) (p .h))) (p .x) (p .y) m)
+    (moved (λ p m. pixels 8 (image (planeOf (a .u .now) (s .«u_stride») (p .w) (p .h))) (p .x) (p .y) m)
     (at-u .pixels-of-8 .ensures) (uv .place-of2 .ensures) (chroma .chroma-vector .ensures))
-    (moved (λ p m. pixels 8 (image (planeOf (a .v .now) (s .«uv_stride») (p .w) (p .h))) (p .x) (p .y) m)
+    (moved (λ p m. pixels 8 (image (planeOf (a .v .now) (s .«v_stride») (p .w) (p .h))) (p .x) (p .y) m)
     (c .pixels-of-82 .ensures) (uv .place-of2 .ensures) (chroma .chroma-vector .ensures)))
 
 pub predict-inter-mb-whole-pixel-spec : {M : Type 1} → statement M

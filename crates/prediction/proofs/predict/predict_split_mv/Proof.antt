@@ -62,8 +62,8 @@ returns-2 c =
     (at-y .split-luma .ensures
     ∙ ap (λ (p : Place). blockBy 16 (a .set) (image (planeOf (a .y .now) (s .«y_stride») (p .w) (p .h))) (p .x) (p .y) (λ r c. lumaVector (fullPixel (a .full-pixel)) (sent (a .split-luma-mvs) (subblock r c))))
     (y .place-of .ensures))
-    (quarters (a .set) (a .full-pixel) (a .u .now) (s .«uv_stride») (a .split-luma-mvs) (uv .place-of2 .ensures) (q .quarter-vectors .ensures) (at-u .split-chroma .ensures))
-    (quarters (a .set) (a .full-pixel) (a .v .now) (s .«uv_stride») (a .split-luma-mvs) (uv .place-of2 .ensures) (q .quarter-vectors .ensures) (c .split-chroma2 .ensures)))
+    (quarters (a .set) (a .full-pixel) (a .u .now) (s .«u_stride») (a .split-luma-mvs) (uv .place-of2 .ensures) (q .quarter-vectors .ensures) (at-u .split-chroma .ensures))
+    (quarters (a .set) (a .full-pixel) (a .v .now) (s .«v_stride») (a .split-luma-mvs) (uv .place-of2 .ensures) (q .quarter-vectors .ensures) (c .split-chroma2 .ensures)))
 
 pub predict-split-mv-spec : {M : Type 1} → statement M
 predict-split-mv-spec =

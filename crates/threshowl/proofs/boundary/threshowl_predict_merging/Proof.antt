@@ -35,7 +35,7 @@ returns c =
     let a = d .before .before .before .before .before .before .args in
     let set = setOf (a .filter) in
     let low = fullPixel (flagOf (a .full-pixel)) in
-    let ref = lent (a .y .now) (a .u .now) (a .v .now) (record { «y_stride» = a .y-stride; «uv_stride» = a .uv-stride; «mb_cols» = a .mb-cols; «mb_rows» = a .mb-rows }) in
+    let ref = lent (a .y .now) (a .u .now) (a .v .now) (record { «y_stride» = a .y-stride; «u_stride» = a .u-stride; «v_stride» = a .v-stride; «mb_cols» = a .mb-cols; «mb_rows» = a .mb-rows }) in
     let mvs = d .mvs-of-bytes .result in
     let v = sent mvs 0 in
     let fits = w .before .struct-told2 .given in
