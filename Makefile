@@ -6,6 +6,7 @@
 #   make demo-check         the same, and compare what it prints; also as C++17
 #   make check              the gate
 #   make mirror             flip pictures and vectors, and compare the answers
+#   make versions           every version number, on good input and with faults
 #   make programs           the programs for people, in target/programs
 #   make tools-check        build them, and try each on small files
 #   make freestanding       link a host that has no C library, and run it
@@ -26,7 +27,7 @@
 # RUSTC=..., see tests/x86-64.sh; the benchmark times a library made for that
 # processor, see bench/native-archive.
 
-VERSION = 0.2.0
+VERSION = 0.3.0
 PREFIX = /usr/local
 DESTDIR =
 ARCHIVE = target/staticlib/libthreshowl.a
@@ -55,7 +56,7 @@ HOST = examples/lamp_panel.c
 EXPECTED = examples/lamp_panel.expected
 FREESTANDING = tests/freestanding/host.c
 
-.PHONY: demo demo-check check mirror oracle bench install install-check clean tools rust-named FORCE
+.PHONY: demo demo-check check mirror versions oracle bench install install-check clean tools rust-named FORCE
 .PHONY: programs tools-check freestanding ivf-evidence ivf-bench
 
 demo: target/demo/lamp_panel
@@ -73,6 +74,9 @@ check:
 
 mirror: target/mirror/mirror
 	$(EMULATOR) target/mirror/mirror $(SEED)
+
+versions: target/versions/versions
+	$(EMULATOR) target/versions/versions $(SEED)
 
 # A program NAME is programs/NAME.c, its page programs/NAME.1, its trial programs/NAME.test.
 PROGRAMS = mend
@@ -141,9 +145,10 @@ target/freestanding/host: $(FREESTANDING) include/threshowl.h $(ARCHIVE) | tools
 	$(AS_C) -ffreestanding -fno-stack-protector -nostdlib -static -Iinclude $(FREESTANDING) \
 	    -Wl,--whole-archive "$(ARCHIVE)" -Wl,--no-whole-archive -o $@
 
-target/mirror/mirror: tests/mirror/mirror.c include/threshowl.h $(ARCHIVE) | tools
-	mkdir -p target/mirror
-	$(AS_C) -Iinclude tests/mirror/mirror.c "$(ARCHIVE)" $(LDLIBS) -o $@
+# The driver NAME is tests/NAME/NAME.c.
+target/mirror/mirror target/versions/versions: target/%: tests/%.c include/threshowl.h $(ARCHIVE) | tools
+	mkdir -p $(@D)
+	$(AS_C) -Iinclude $< "$(ARCHIVE)" $(LDLIBS) -o $@
 
 target/programs/%: programs/%.c include/threshowl.h $(ARCHIVE) | tools
 	mkdir -p target/programs

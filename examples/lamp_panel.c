@@ -528,6 +528,77 @@ static void show_numbers(const Picture *p)
         provoke_in_all(p, i);
 }
 
+/* ---- The version number of a frame's tag, handed over as it stands there ---- */
+
+static uint32_t whole_by_version(const Call *c, uint8_t version, Answer *a)
+{
+    const Picture *p = c->picture;
+    return threshowl_predict_whole_by_version(p->y, c->y_len, p->u, c->u_len, p->v, c->v_len,
+                                              c->y_stride, c->u_stride, c->v_stride, c->mb_cols,
+                                              c->mb_rows, c->mb_col, c->mb_row, c->row, c->col,
+                                              version, a->bytes, c->out_len);
+}
+
+static uint32_t split_by_version(const Call *c, uint8_t version, Answer *a)
+{
+    const Picture *p = c->picture;
+    uint8_t vectors[THRESHOWL_VECTORS_LEN];
+    sixteen(c, vectors);
+    return threshowl_predict_split_by_version(p->y, c->y_len, p->u, c->u_len, p->v, c->v_len,
+                                              c->y_stride, c->u_stride, c->v_stride, c->mb_cols,
+                                              c->mb_rows, c->mb_col, c->mb_row, vectors,
+                                              c->vectors_len, version, a->bytes, c->out_len);
+}
+
+static void print_version(const char *words, uint32_t of_whole, uint32_t of_split)
+{
+    printf("  %-36s %8u %8u\n", words, (unsigned)of_whole, (unsigned)of_split);
+}
+
+/* Versions 0 to 3 answer what their table and flag answer. */
+static void show_version(const Picture *p, uint8_t version)
+{
+    Call c = good_call(p, 3, -5);
+    Answer by_codes, by_number;
+    char words[16];
+    uint32_t numbers[2];
+    c.filter = version == 0 ? THRESHOWL_SIXTAP : THRESHOWL_BILINEAR;
+    c.full_pixel = version == 3;
+    whole(&c, &by_codes);
+    numbers[0] = whole_by_version(&c, version, &by_number);
+    expect(memcmp(&by_codes, &by_number, sizeof by_codes) == 0, "whole by version is whole");
+    split(&c, &by_codes);
+    numbers[1] = split_by_version(&c, version, &by_number);
+    expect(memcmp(&by_codes, &by_number, sizeof by_codes) == 0, "split by version is split");
+    snprintf(words, sizeof words, "version %u", version);
+    print_version(words, numbers[0], numbers[1]);
+}
+
+/* A reserved version is refused before anything else that is amiss. */
+static void show_reserved(const Picture *p)
+{
+    Call c = good_call(p, 0, 0);
+    Answer a;
+    size_t i;
+    print_version("version 5, which is reserved", whole_by_version(&c, 5, &a),
+                  split_by_version(&c, 5, &a));
+    for (i = 0; i < FAULTS; i++)
+        faults[i].commit(&c);
+    print_version("version 5, with every fault above", whole_by_version(&c, 5, &a),
+                  split_by_version(&c, 5, &a));
+    expect(split_by_version(&c, 5, &a) == THRESHOWL_RESERVED_VERSION, "5 is refused with 10");
+}
+
+static void show_versions(const Picture *p)
+{
+    uint8_t version;
+    printf("By version:\n");
+    printf("  %-36s %8s %8s\n", "", forms[WHOLE].name, forms[SPLIT].name);
+    for (version = 0; version < 4; version++)
+        show_version(p, version);
+    show_reserved(p);
+}
+
 int main(int argc, char **argv)
 {
     static Picture panel;
@@ -538,6 +609,7 @@ int main(int argc, char **argv)
     paint_panel(&panel);
     show_lamps(&panel, argv[1]);
     show_numbers(&panel);
+    show_versions(&panel);
     printf(failures ? "Something is not as it should be.\n" : "All is as it should be.\n");
     return failures ? EXIT_FAILURE : EXIT_SUCCESS;
 }

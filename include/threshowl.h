@@ -3,7 +3,8 @@
  *
  * Three functions predict a macroblock from a reference picture: whole (one
  * vector), split (sixteen vectors) and merging (sixteen vectors, taken for one
- * where all are equal and no picture could tell).  Link libthreshowl.a.  It
+ * where all are equal and no picture could tell).  Two more do the first two by
+ * the version number of a frame's tag.  Link libthreshowl.a.  It
  * needs two symbols of the host, memcpy and memset as C has them, and no others.
  *
  *
@@ -35,6 +36,10 @@
  * and any other value is on: then every luma and chroma vector is lowered to
  * whole pixels.
  *
+ * A frame's version says both: 0 is six-tap, 1 to 3 are bilinear, and 3 has
+ * full-pixel on.  The functions by version take that number as it stands in the
+ * frame's tag.  All others are reserved, and refused.
+ *
  *
  * The answer
  *
@@ -44,7 +49,8 @@
  * refused, and not one byte of out is changed.
  *
  * The tests are made in the order of their numbers, so the number given is the
- * lowest that applies.  Sums in them are exact and never wrap.
+ * lowest that applies; 10 alone comes before every other.  Sums in them are exact
+ * and never wrap.
  *
  *
  * What the caller owes
@@ -105,7 +111,11 @@ enum {
     THRESHOWL_BAD_VECTORS = 6,
 
     /* out_len is not 384. */
-    THRESHOWL_BAD_OUT = 7
+    THRESHOWL_BAD_OUT = 7,
+
+    /* version is above 3, whatever else is at fault.  The functions by version
+       alone give this number. */
+    THRESHOWL_RESERVED_VERSION = 10
 };
 
 /*
@@ -152,6 +162,35 @@ uint32_t threshowl_predict_merging(
     size_t mb_col, size_t mb_row,
     const uint8_t *vectors, size_t vectors_len,
     uint8_t filter, uint8_t full_pixel,
+    uint8_t *out, size_t out_len);
+
+/*
+ * Whole prediction with the table and the flag of a frame's version.  Gives 10,
+ * or 0, 1, 2, 3, 4 or 7.
+ */
+uint32_t threshowl_predict_whole_by_version(
+    const uint8_t *y, size_t y_len,
+    const uint8_t *u, size_t u_len,
+    const uint8_t *v, size_t v_len,
+    size_t y_stride, size_t u_stride, size_t v_stride,
+    size_t mb_cols, size_t mb_rows,
+    size_t mb_col, size_t mb_row,
+    int16_t mv_row, int16_t mv_col,
+    uint8_t version,
+    uint8_t *out, size_t out_len);
+
+/*
+ * Split prediction with them.  Gives 10, or 0 to 4, 6 or 7.
+ */
+uint32_t threshowl_predict_split_by_version(
+    const uint8_t *y, size_t y_len,
+    const uint8_t *u, size_t u_len,
+    const uint8_t *v, size_t v_len,
+    size_t y_stride, size_t u_stride, size_t v_stride,
+    size_t mb_cols, size_t mb_rows,
+    size_t mb_col, size_t mb_row,
+    const uint8_t *vectors, size_t vectors_len,
+    uint8_t version,
     uint8_t *out, size_t out_len);
 
 /*

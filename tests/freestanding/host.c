@@ -111,6 +111,16 @@ static int merging(void)
     return predicted(threshowl_predict_merging(PICTURE, VECTORS, THRESHOWL_BILINEAR, 0, out, sizeof out));
 }
 
+static int whole_by_version(void)
+{
+    return predicted(threshowl_predict_whole_by_version(PICTURE, 0, COL, 1, out, sizeof out));
+}
+
+static int split_by_version(void)
+{
+    return predicted(threshowl_predict_split_by_version(PICTURE, VECTORS, 2, out, sizeof out));
+}
+
 /* ---- Recordings: a complete frame, then five bytes of another ---- */
 
 static int mend(void)
@@ -134,7 +144,7 @@ static int mend(void)
 
 /* ---- Where the program begins and ends (Linux, x86-64) ---- */
 
-static int (*const calls[])(void) = {whole, split, merging, mend};
+static int (*const calls[])(void) = {whole, split, merging, whole_by_version, split_by_version, mend};
 
 int run(void);
 

@@ -364,7 +364,7 @@ const PICTURES: [(usize, usize, usize, [usize; 2], usize, Shows); 15] = [
 fn version_of(filter: u8, flag: u8, random: &mut Random) -> u8 {
     match (filter, flag) {
         (0, _) => 0,
-        (_, 0) => random.pick(&[1, 2, 4, 5, 128, 255]),
+        (_, 0) => random.pick(&[1, 2]),
         _ => 3,
     }
 }

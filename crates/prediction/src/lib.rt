@@ -24,5 +24,6 @@ pub use predict::predict_inter_mb_whole_pixel;
 pub use predict::predict_merging;
 pub use predict::predict_split_mv;
 
-// and how two numbers become one
+// and how two numbers become one, and what is answered with a number alone
+pub use predict::refused;
 pub use refusal::or_else;

@@ -24,7 +24,8 @@ use rfc6386::Prediction;
 use rfc6386::ReconstructedMb;
 use rfc6386::Sizes;
 
-fn refused(number: u32) -> Prediction
+// What a call answers that refuses by this number.
+pub fn refused(number: u32) -> Prediction
     ensures { λ r. ⌜ r ≡ record { number = number; samples = noSamples } ⌝ }
 {
     Prediction {

@@ -10,12 +10,14 @@ use lib.ListN.{length, getD, length-replicate}
 use mir.Syntax.{w16}
 use mir.Val.{SFits}
 use Rattle.rfc6386.specs.Vector.{Lowering, fullPixel, inside, mergeable}
-use Rattle.rfc6386.specs.Filter.{versionProfile}
+use Rattle.rfc6386.specs.Filter.{versionSet}
 use Rattle.rfc6386.specs.Macroblock.{Reference, lent, refusal, answered, whole, split}
+use Rattle.rfc6386.specs.Version.{reservedVersion, wholeByVersion, splitByVersion}
 use Rattle.rfc6386.specs.Telling.{sixteen, onlyU, upperLower, leftRight, telling, tellingSample}
 use Rattle.rfc6386.specs.Merging.{merge-inside, merge-outside}
 use Rattle.rfc6386.specs.Laws.Raster.{length-raster}
 use Rattle.rfc6386.specs.Laws.Blocks.{AllBytes}
+use Rattle.rfc6386.specs.Laws.Versions.{versionLowering, whole-meant, split-meant, whole-reserved, split-reserved}
 use Rattle.rfc6386.specs.Laws.Merging.{only-bytes}
 use Rattle.rfc6386.specs.declared.Mv.{Mv}
 use Rattle.rfc6386.specs.declared.FilterSet.{FilterSet}
@@ -159,10 +161,28 @@ pub answers-agree-exactly : (set : FilterSet) (flag : Bool) (v : Mv) → SFits w
 answers-agree-exactly set flag = results-agree-exactly set (fullPixel flag)
 
 -- by version
-pub answers-agree-exactly-by-version : (version : ℕ) (v : Mv) → SFits w16 (v .row) → SFits w16 (v .col)
-    → ((p : Place) → OfTypes p → (r s : Prediction)
-    → WholeGives (versionProfile version .set) (fullPixel (versionProfile version .«full_pixel»)) p v r
-    → SplitGives (versionProfile version .set) (fullPixel (versionProfile version .«full_pixel»)) p (sixteen v) s
-    → r ≡ s)
-    ↔ (mergeable v ≡ true)
-answers-agree-exactly-by-version version = results-agree-exactly (versionProfile version .set) (fullPixel (versionProfile version .«full_pixel»))
+abbrev pub WholeGivesByVersion : ℕ → Place → Mv → Prediction → Type 0
+WholeGivesByVersion version p v r = r ≡ wholeByVersion version (lentAt p) (p .col) (p .row) v
+
+abbrev pub SplitGivesByVersion : ℕ → Place → List Mv → Prediction → Type 0
+SplitGivesByVersion version p vs r = r ≡ splitByVersion version (lentAt p) (p .col) (p .row) vs
+
+pub answers-agree-exactly-by-version : (version : ℕ) → version ≤ 3 → (v : Mv) → SFits w16 (v .row) → SFits w16 (v .col)
+    → ((p : Place) → OfTypes p → (r s : Prediction) → WholeGivesByVersion version p v r → SplitGivesByVersion version p (sixteen v) s → r ≡ s) ↔ (mergeable v ≡ true)
+answers-agree-exactly-by-version version h v fr fc =
+    let exactly = results-agree-exactly (versionSet version) (versionLowering version) v fr fc in (
+      λ same. exactly .0 (λ p t r s a b. same p t r s (a ∙ sym (as-whole p)) (b ∙ sym (as-split p))),
+      λ e p t r s a b. exactly .1 e p t r s (a ∙ as-whole p) (b ∙ as-split p),
+    )
+  where
+    as-whole : (p : Place) → wholeByVersion version (lentAt p) (p .col) (p .row) v ≡ whole (versionSet version) (versionLowering version) (lentAt p) (p .col) (p .row) v
+    as-whole p = whole-meant version (lentAt p) (p .col) (p .row) h v
+
+    as-split : (p : Place) → splitByVersion version (lentAt p) (p .col) (p .row) (sixteen v) ≡ split (versionSet version) (versionLowering version) (lentAt p) (p .col) (p .row) (sixteen v)
+    as-split p = split-meant version (lentAt p) (p .col) (p .row) h (sixteen v)
+
+-- results with a reserved version are alike: refused by 10
+pub answers-refused-alike : (version : ℕ) → 3 < version → (p : Place) (v : Mv) (vs : List Mv) (r s : Prediction)
+    → WholeGivesByVersion version p v r → SplitGivesByVersion version p vs s → (r ≡ reservedVersion) × (s ≡ reservedVersion)
+answers-refused-alike version h p v vs r s a b =
+    (a ∙ whole-reserved version (lentAt p) (p .col) (p .row) h v, b ∙ split-reserved version (lentAt p) (p .col) (p .row) h vs)

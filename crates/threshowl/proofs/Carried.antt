@@ -14,10 +14,12 @@ use mir.Val.{SFits}
 use Rattle.signed.specs.Int.{int, range, diff}
 use Rattle.rfc6386.specs.Number.{floorMod, wrap16}
 use Rattle.rfc6386.specs.Vector.{Lowering, fullPixel, lumaVector, chromaVector, mergeable}
+use Rattle.rfc6386.specs.Filter.{versionSet}
 use Rattle.rfc6386.specs.Raster.{tab}
 use Rattle.rfc6386.specs.Picture.{image, blockBy}
 use Rattle.rfc6386.specs.Refusal.{orElse, ifDone}
 use Rattle.rfc6386.specs.Macroblock.{Reference, planeY, planeU, refusal, wholeSamples, splitSamples, noSamples, answered, whole, split}
+use Rattle.rfc6386.specs.Version.{reservedVersion, wholeByVersion, splitByVersion}
 use Rattle.rfc6386.specs.Telling.{sixteen, tellingSample}
 use Rattle.rfc6386.specs.Carried.{Place, lentAt, OfTypes, tellingPlace, telling-typed, results-agree, results-differ}
 use Rattle.rfc6386.specs.Laws.Vectors.{vector, wrap-in, wrap-high}
@@ -25,8 +27,10 @@ use Rattle.rfc6386.specs.Laws.Raster.{length-tab, getD-tab, is-tab, length-rast
 use Rattle.rfc6386.specs.Laws.Refusals.{done}
 use Rattle.rfc6386.specs.Laws.Blocks.{length-block}
 use Rattle.rfc6386.specs.Laws.Merging.{zeros-bytes}
-use Rattle.threshowl.specs.Boundary.{setOf, flagOf, codeRefusal, codesRefusal, vectorAt, vectorsOf, int16, flat, roomRefusal, callNumber, Left}
-use Rattle.threshowl.proofs.Laws.{left-as, codes-as, one-outcome}
+use Rattle.rfc6386.specs.Laws.Versions.{versionLowering, whole-meant, split-meant, whole-reserved, split-reserved}
+use Rattle.entries.specs.Lists.{countRefusal}
+use Rattle.threshowl.specs.Boundary.{setOf, flagOf, codeRefusal, vectorAt, vectorsOf, int16, flat, roomRefusal, callNumber, Left}
+use Rattle.threshowl.proofs.Laws.{left-as, left-refused, codes-as, one-outcome}
 use Rattle.rfc6386.specs.declared.Mv.{Mv}
 use Rattle.rfc6386.specs.declared.FilterSet.{FilterSet}
 use Rattle.rfc6386.specs.declared.ReconstructedMb.{ReconstructedMb}
@@ -75,16 +79,31 @@ module _ (v : Mv) (fr : SFits w16 (v .row)) (fc : SFits w16 (v .col)) where
   spelled-is =
       sym (is-tab v 16 (vectorAt (sixteenSpelled v)) (sixteen v) (length-replicate 16 v) (λ i h. getD-replicate 16 i v v h ∙ sym (vector-is i h)))
 
--- ---- what the contracts allow: the number r and the final bytes out′ of an output that held out
+-- ---- what the contracts allow: the number r and the final bytes out′ of an output that held out, where the codes besides the vectors get
+-- the number `codes`
+-- of a whole prediction
+abbrev WholeOf : FilterSet → Lowering → ℕ → Place → Mv → List ℕ → ℕ → List ℕ → Type 0
+WholeOf set low codes p v out r out′ = Left (whole set low (lentAt p) (p .col) (p .row) v) codes out r out′
+
+-- and of a split one
+abbrev SplitOf : FilterSet → Lowering → ℕ → Place → List ℕ → List ℕ → ℕ → List ℕ → Type 0
+SplitOf set low codes p vectors out r out′ = Left (split set low (lentAt p) (p .col) (p .row) (vectorsOf vectors)) (orElse codes (countRefusal 64 (length vectors))) out r out′
+
 -- of threshowl_predict_whole
 abbrev pub WholeLeaves : ℕ → ℕ → Place → Mv → List ℕ → ℕ → List ℕ → Type 0
-WholeLeaves filter flag p v out r out′ =
-    Left (whole (setOf filter) (fullPixel (flagOf flag)) (lentAt p) (p .col) (p .row) v) (codeRefusal filter) out r out′
+WholeLeaves filter flag = WholeOf (setOf filter) (fullPixel (flagOf flag)) (codeRefusal filter)
 
--- and of threshowl_predict_split, or threshowl_predict_merging
+-- of threshowl_predict_split, or threshowl_predict_merging
 abbrev pub SplitLeaves : ℕ → ℕ → Place → List ℕ → List ℕ → ℕ → List ℕ → Type 0
-SplitLeaves filter flag p vectors out r out′ =
-    Left (split (setOf filter) (fullPixel (flagOf flag)) (lentAt p) (p .col) (p .row) (vectorsOf vectors)) (codesRefusal filter (length vectors)) out r out′
+SplitLeaves filter flag = SplitOf (setOf filter) (fullPixel (flagOf flag)) (codeRefusal filter)
+
+-- of threshowl_predict_whole_by_version and threshowl_predict_split_by_version
+abbrev pub WholeLeavesByVersion : ℕ → Place → Mv → List ℕ → ℕ → List ℕ → Type 0
+WholeLeavesByVersion version p v out r out′ = Left (wholeByVersion version (lentAt p) (p .col) (p .row) v) 0 out r out′
+
+abbrev pub SplitLeavesByVersion : ℕ → Place → List ℕ → List ℕ → ℕ → List ℕ → Type 0
+SplitLeavesByVersion version p vectors out r out′ =
+    Left (splitByVersion version (lentAt p) (p .col) (p .row) (vectorsOf vectors)) (countRefusal 64 (length vectors)) out r out′
 
 -- ---- demand 3
 -- two calls that are done, and differ in byte i of 384
@@ -136,68 +155,99 @@ module _ (set : FilterSet) (low : Lowering) (ref : Reference) (col row : ℕ) wh
   unfolding split answered splitSamples blockBy
   split-counted vs e = counted (refusal ref col row) (splitSamples set low ref col row vs) e (length-raster 16 16 _) (length-raster 8 8 _)
 
-module _ (filter flag : ℕ) (v : Mv) (fr : SFits w16 (v .row)) (fc : SFits w16 (v .col)) where
+module _ (set : FilterSet) (low : Lowering) (codes : ℕ) (v : Mv) (fr : SFits w16 (v .row)) (fc : SFits w16 (v .col)) where
   -- split's contract for the 64 bytes is its contract for the vector sixteen times
-  spelled-out : (p : Place) (out : List ℕ) (r : ℕ) (out′ : List ℕ) → SplitLeaves filter flag p (sixteenSpelled v) out r out′
-      → Left (split (setOf filter) (fullPixel (flagOf flag)) (lentAt p) (p .col) (p .row) (sixteen v)) (codeRefusal filter) out r out′
+  spelled-out : (p : Place) (out : List ℕ) (r : ℕ) (out′ : List ℕ) → SplitOf set low codes p (sixteenSpelled v) out r out′
+      → Left (split set low (lentAt p) (p .col) (p .row) (sixteen v)) codes out r out′
   spelled-out p out r out′ L =
-      left-as (ap (split (setOf filter) (fullPixel (flagOf flag)) (lentAt p) (p .col) (p .row)) (spelled-is v fr fc))
-      (sym (codes-as filter (length (sixteenSpelled v)) (length-tab 64 _))) L
+      left-as (ap (split set low (lentAt p) (p .col) (p .row)) (spelled-is v fr fc))
+      (sym (codes-as codes (length (sixteenSpelled v)) (length-tab 64 _))) L
 
   -- THEOREM (inside). One call with the vector and one with its bytes sixteen times leave the same number and the same bytes, whatever they are
   -- lent, refused or not.
   pub outputs-agree : mergeable v ≡ true → (p : Place) (out : List ℕ) (r s : ℕ) (a b : List ℕ)
-      → WholeLeaves filter flag p v out r a → SplitLeaves filter flag p (sixteenSpelled v) out s b → (r ≡ s) × (a ≡ b)
+      → WholeOf set low codes p v out r a → SplitOf set low codes p (sixteenSpelled v) out s b → (r ≡ s) × (a ≡ b)
   outputs-agree e p out r s a b L M =
-      one-outcome (left-as (results-agree (setOf filter) (fullPixel (flagOf flag)) v e p _ _ refl refl) refl L) (spelled-out p out s b M)
+      one-outcome (left-as (results-agree set low v e p _ _ refl refl) refl L) (spelled-out p out s b M)
 
-  -- THEOREM (outside). For each other vector, with a filter code that is not refused and an output of 384 bytes, both calls are done on
+  -- THEOREM (outside). For each other vector, with codes that are not refused and an output of 384 bytes, both calls are done on
   -- `tellingPlace v`, and differ in byte 256 + `tellingSample v`: that sample of U.
-  pub outputs-differ : mergeable v ≡ false → filter ≤ 1 → (out : List ℕ) → length out ≡ 384 → (r s : ℕ) (a b : List ℕ)
-      → WholeLeaves filter flag (tellingPlace v) v out r a → SplitLeaves filter flag (tellingPlace v) (sixteenSpelled v) out s b
+  pub outputs-differ : mergeable v ≡ false → codes ≡ 0 → (out : List ℕ) → length out ≡ 384 → (r s : ℕ) (a b : List ℕ)
+      → WholeOf set low codes (tellingPlace v) v out r a → SplitOf set low codes (tellingPlace v) (sixteenSpelled v) out s b
       → Unlike r s a b (256 + tellingSample v)
-  outputs-differ e code out room r s a b L M =
+  outputs-differ e c out room r s a b L M =
       let p = tellingPlace v in
-      let set = setOf filter in
-      let low = fullPixel (flagOf flag) in
       let w = whole set low (lentAt p) 0 0 v in
       let t = split set low (lentAt p) 0 0 (sixteen v) in
       let D = results-differ set low v fr fc e w t refl refl in
-      let c : codeRefusal filter ≡ 0 = ap (λ (x : Bool). cond x 5 0) (le-ltb 1 filter code) in
       let N = spelled-out p out s b M in
       let W = whole-counted set low (lentAt p) 0 0 v (D .first-accepted) in
       let S = split-counted set low (lentAt p) 0 0 (sixteen v) (D .second-accepted) in
       let i = tellingSample v in
       record {
-        first-done = number-zero w (codeRefusal filter) out r a (D .first-accepted) c room L;
-        second-done = number-zero t (codeRefusal filter) out s b (D .second-accepted) c room N;
+        first-done = number-zero w codes out r a (D .first-accepted) c room L;
+        second-done = number-zero t codes out s b (D .second-accepted) c room N;
         inside = omega (arith, D .in-u);
         differ = λ same.
             D .differ
-            (sym (u-byte w (codeRefusal filter) out r a (D .first-accepted) c room L i (W .y) (omega (arith, D .in-u, W .u)))
+            (sym (u-byte w codes out r a (D .first-accepted) c room L i (W .y) (omega (arith, D .in-u, W .u)))
             ∙ same
-            ∙ u-byte t (codeRefusal filter) out s b (D .second-accepted) c room N i (S .y) (omega (arith, D .in-u, S .u)));
+            ∙ u-byte t codes out s b (D .second-accepted) c room N i (S .y) (omega (arith, D .in-u, S .u)));
       }
 
   -- THEOREM (demand 3, of the C functions). They leave the same on every picture and position, and in every output, exactly where both
   -- components lie in -16384 .. 16383.
-  pub outputs-agree-exactly : filter ≤ 1
+  pub outputs-agree-exactly : codes ≡ 0
       → ((p : Place) → OfTypes p → (out : List ℕ) → ((i : ℕ) → getD out i 0 ≤ 255) → (r s : ℕ) (a b : List ℕ)
-      → WholeLeaves filter flag p v out r a → SplitLeaves filter flag p (sixteenSpelled v) out s b → (r ≡ s) × (a ≡ b))
+      → WholeOf set low codes p v out r a → SplitOf set low codes p (sixteenSpelled v) out s b → (r ≡ s) × (a ≡ b))
       ↔ (mergeable v ≡ true)
-  outputs-agree-exactly code = (λ same. at same (mergeable v) refl, λ e p t out h. outputs-agree e p out)
+  outputs-agree-exactly c = (λ same. at same (mergeable v) refl, λ e p t out h. outputs-agree e p out)
     where
       at : ((p : Place) → OfTypes p → (out : List ℕ) → ((i : ℕ) → getD out i 0 ≤ 255) → (r s : ℕ) (a b : List ℕ)
-          → WholeLeaves filter flag p v out r a → SplitLeaves filter flag p (sixteenSpelled v) out s b → (r ≡ s) × (a ≡ b))
+          → WholeOf set low codes p v out r a → SplitOf set low codes p (sixteenSpelled v) out s b → (r ≡ s) × (a ≡ b))
           → (x : Bool) → mergeable v ≡ x → x ≡ true
       at same true e = refl
       at same false e =
           let p = tellingPlace v in
           let out : List ℕ = replicate 384 0 in
-          let w = whole (setOf filter) (fullPixel (flagOf flag)) (lentAt p) (p .col) (p .row) v in
-          let t = split (setOf filter) (fullPixel (flagOf flag)) (lentAt p) (p .col) (p .row) (vectorsOf (sixteenSpelled v)) in
-          let L = leaves w (codeRefusal filter) out in
-          let M = leaves t (codesRefusal filter (length (sixteenSpelled v))) out in
+          let w = whole set low (lentAt p) (p .col) (p .row) v in
+          let t = split set low (lentAt p) (p .col) (p .row) (vectorsOf (sixteenSpelled v)) in
+          let L = leaves w codes out in
+          let M = leaves t (orElse codes (countRefusal 64 (length (sixteenSpelled v)))) out in
           absurd
-          (outputs-differ e code out refl _ _ _ _ L M .differ
+          (outputs-differ e c out refl _ _ _ _ L M .differ
           (ap (λ (l : List ℕ). getD l (256 + tellingSample v) 0) (same p (telling-typed v) out (zeros-bytes 384) _ _ _ _ L M .1)))
+
+-- of the calls with a filter code and a flag
+pub codes-agree-exactly : (filter flag : ℕ) (v : Mv) → SFits w16 (v .row) → SFits w16 (v .col) → filter ≤ 1
+    → ((p : Place) → OfTypes p → (out : List ℕ) → ((i : ℕ) → getD out i 0 ≤ 255) → (r s : ℕ) (a b : List ℕ)
+    → WholeLeaves filter flag p v out r a → SplitLeaves filter flag p (sixteenSpelled v) out s b → (r ≡ s) × (a ≡ b))
+    ↔ (mergeable v ≡ true)
+codes-agree-exactly filter flag v fr fc h =
+    outputs-agree-exactly (setOf filter) (fullPixel (flagOf flag)) (codeRefusal filter) v fr fc (ap (λ (x : Bool). cond x 5 0) (le-ltb 1 filter h))
+
+-- of the calls by version, from 0 to 3
+pub versions-agree-exactly : (version : ℕ) → version ≤ 3 → (v : Mv) → SFits w16 (v .row) → SFits w16 (v .col)
+    → ((p : Place) → OfTypes p → (out : List ℕ) → ((i : ℕ) → getD out i 0 ≤ 255) → (r s : ℕ) (a b : List ℕ)
+    → WholeLeavesByVersion version p v out r a → SplitLeavesByVersion version p (sixteenSpelled v) out s b → (r ≡ s) × (a ≡ b))
+    ↔ (mergeable v ≡ true)
+versions-agree-exactly version h v fr fc =
+    let exactly = outputs-agree-exactly (versionSet version) (versionLowering version) 0 v fr fc refl in (
+      λ same. exactly .0 (λ p t out k r s a b L M. same p t out k r s a b (left-as (sym (as-whole p)) refl L) (left-as (sym (as-split p _)) refl M)),
+      λ e p t out k r s a b L M. exactly .1 e p t out k r s a b (left-as (as-whole p) refl L) (left-as (as-split p _) refl M),
+    )
+  where
+    as-whole : (p : Place) → wholeByVersion version (lentAt p) (p .col) (p .row) v ≡ whole (versionSet version) (versionLowering version) (lentAt p) (p .col) (p .row) v
+    as-whole p = whole-meant version (lentAt p) (p .col) (p .row) h v
+
+    as-split : (p : Place) (vs : List Mv) → splitByVersion version (lentAt p) (p .col) (p .row) vs ≡ split (versionSet version) (versionLowering version) (lentAt p) (p .col) (p .row) vs
+    as-split p vs = split-meant version (lentAt p) (p .col) (p .row) h vs
+
+-- and with any other version both refuse by 10, and keep the output
+pub versions-refused-alike : (version : ℕ) → 3 < version → (p : Place) (v : Mv) (vectors out : List ℕ) (r s : ℕ) (a b : List ℕ)
+    → WholeLeavesByVersion version p v out r a → SplitLeavesByVersion version p vectors out s b → ((r ≡ 10) × (a ≡ out)) × ((s ≡ 10) × (b ≡ out))
+versions-refused-alike version h p v vectors out r s a b L M = (
+  one-outcome (left-as (whole-reserved version (lentAt p) (p .col) (p .row) h v) refl L) (left-refused reservedVersion 0 out 10 refl (λ z. omega arith)),
+  one-outcome (left-as (split-reserved version (lentAt p) (p .col) (p .row) h (vectorsOf vectors)) refl M)
+      (left-refused reservedVersion (countRefusal 64 (length vectors)) out 10 refl (λ z. omega arith)),
+)

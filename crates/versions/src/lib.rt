@@ -1,18 +1,19 @@
-// What a frame's version number asks for: the tap table and the full-pixel flag; and prediction with them.
+// What a frame's version number asks for: the tap table and the full-pixel flag; and prediction with them, which refuses the reserved
+// numbers.
 ghost use mathlib.Core.Path.{_≡_};
-ghost use lib.Dec.{eqb};
 ghost use Rattle.rfc6386.specs.Filter.{versionSet, versionProfile};
-ghost use Rattle.rfc6386.specs.Vector.{fullPixel};
-ghost use Rattle.rfc6386.specs.Macroblock.{lent, whole, split};
+ghost use Rattle.rfc6386.specs.Macroblock.{lent};
+ghost use Rattle.rfc6386.specs.Version.{wholeByVersion, splitByVersion};
 use prediction::predict_inter_mb;
 use prediction::predict_split_mv;
+use prediction::refused;
 use rfc6386::FilterSet;
 use rfc6386::Mv;
 use rfc6386::Prediction;
 use rfc6386::Profile;
 use rfc6386::Sizes;
 
-// The table and the full-pixel flag of a version. Only 0 to 3 have a meaning; the others get the Rust's answer.
+// The table and the full-pixel flag of a version. Only 0 to 3 have a meaning; the others are reserved, and have the Rust's table.
 pub fn profile_for_version(version: u8) -> Profile
     ensures { λ r. ⌜ r ≡ versionProfile version ⌝ }
 {
@@ -20,18 +21,22 @@ pub fn profile_for_version(version: u8) -> Profile
         0 => Profile {
             set: FilterSet::Sixtap,
             full_pixel: false,
+            reserved: false,
         },
         1..=2 => Profile {
             set: FilterSet::Bilinear,
             full_pixel: false,
+            reserved: false,
         },
         3 => Profile {
             set: FilterSet::Bilinear,
             full_pixel: true,
+            reserved: false,
         },
         4..=255 => Profile {
             set: FilterSet::Bilinear,
             full_pixel: false,
+            reserved: true,
         },
     }
 }
@@ -43,7 +48,7 @@ pub fn filter_set_for_version(version: u8) -> FilterSet
     profile.set
 }
 
-// Whole prediction with the table and the flag of a frame's version.
+// Whole prediction with the table and the flag of a frame's version; 10 before every other number where that is reserved.
 pub fn predict_inter_mb_by_version(
     y: &[u8],
     u: &[u8],
@@ -54,9 +59,12 @@ pub fn predict_inter_mb_by_version(
     luma_mv: Mv,
     version: u8,
 ) -> Prediction
-    ensures { λ r. ⌜ r ≡ whole (versionSet version) (fullPixel (eqb version 3)) (lent (now (y .entry)) (now (u .entry)) (now (v .entry)) sizes) «mb_col» «mb_row» «luma_mv» ⌝ }
+    ensures { λ r. ⌜ r ≡ wholeByVersion version (lent (now (y .entry)) (now (u .entry)) (now (v .entry)) sizes) «mb_col» «mb_row» «luma_mv» ⌝ }
 {
     let profile = profile_for_version(version);
+    if profile.reserved {
+        return refused(10);
+    }
     let set = profile.set;
     predict_inter_mb(
         y,
@@ -71,7 +79,7 @@ pub fn predict_inter_mb_by_version(
     )
 }
 
-// Split prediction with them.
+// Split prediction likewise.
 pub fn predict_split_mv_by_version(
     y: &[u8],
     u: &[u8],
@@ -82,9 +90,12 @@ pub fn predict_split_mv_by_version(
     split_luma_mvs: [Mv; 16],
     version: u8,
 ) -> Prediction
-    ensures { λ r. ⌜ r ≡ split (versionSet version) (fullPixel (eqb version 3)) (lent (now (y .entry)) (now (u .entry)) (now (v .entry)) sizes) «mb_col» «mb_row» «split_luma_mvs» ⌝ }
+    ensures { λ r. ⌜ r ≡ splitByVersion version (lent (now (y .entry)) (now (u .entry)) (now (v .entry)) sizes) «mb_col» «mb_row» «split_luma_mvs» ⌝ }
 {
     let profile = profile_for_version(version);
+    if profile.reserved {
+        return refused(10);
+    }
     let set = profile.set;
     predict_split_mv(
         y,

@@ -15,7 +15,7 @@ use std::num::wrapping_add_usize;
 use versions::predict_inter_mb_by_version;
 use versions::predict_split_mv_by_version;
 
-fn say(what: &[u8], p: Prediction) {
+pub fn say(what: &[u8], p: Prediction) {
     let samples = p.samples;
     let y = samples.y;
     let u = samples.u;

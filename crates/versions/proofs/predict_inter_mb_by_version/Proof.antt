@@ -1,18 +1,33 @@
--- `predict_inter_mb_by_version` is whole prediction with the version's table and flag.
+-- `predict_inter_mb_by_version` is whole prediction with the version's table and flag, and refuses a reserved version.
 use borrow.Author.Needs.{needs}
-use mathlib.Core.Path.{ap, _∙_}
-use Rattle.rfc6386.specs.Vector.{fullPixel}
+use mathlib.Core.Path.{_∙_}
+use Rattle.rfc6386.specs.Vector.{Lowering}
 use Rattle.rfc6386.specs.Macroblock.{lent, whole}
-use Rattle.rfc6386.specs.declared.Profile.{Profile}
+use Rattle.rfc6386.specs.Version.{wholeByVersion}
+use Rattle.rfc6386.specs.Laws.Versions.{refused-by, predicted-by}
+use Rattle.rfc6386.specs.declared.FilterSet.{FilterSet}
+use Rattle.rfc6386.specs.declared.Prediction.{Prediction}
 use Rattle.versions.proofs.predict_inter_mb_by_version.Statement.{statement}
 use Rattle.versions.proofs.predict_inter_mb_by_version.Tie as tie
 
+-- what is predicted, by a table and a rule
+abbrev predicted : tie.After-profile-for-version → FilterSet → Lowering → Prediction
+predicted c set low =
+    let a = c .before .before .before .before .args in
+    whole set low (lent (a .y .now) (a .u .now) (a .v .now) (a .sizes)) (a .mb-col) (a .mb-row) (a .luma-mv)
+
 returns : tie.Need-returns
+unfolding wholeByVersion
 returns c =
-    let a = c .before .before .before .before .before .args in
+    let p = c .before .before in
+    c .refused .ensures ∙ refused-by (p .before .before .before .before .args .version) (p .profile-for-version .ensures) (predicted p) (c .before .if1 .taken)
+
+returns-2 : tie.Need-returns-2
+unfolding wholeByVersion
+returns-2 c =
+    let p = c .before .before in
     c .predict-inter-mb .ensures
-    ∙ ap (λ (p : Profile). whole (p .set) (fullPixel (p .«full_pixel»)) (lent (a .y .now) (a .u .now) (a .v .now) (a .sizes)) (a .mb-col) (a .mb-row) (a .luma-mv))
-    (c .before .profile-for-version .ensures)
+    ∙ predicted-by (p .before .before .before .before .args .version) (p .profile-for-version .ensures) (predicted p) (c .before .if1 .left)
 
 pub predict-inter-mb-by-version-spec : {M : Type 1} → statement M
-predict-inter-mb-by-version-spec = tie.close (tie.spec (λ c κs. search needs) (λ c κs. search needs) returns)
+predict-inter-mb-by-version-spec = tie.close (tie.spec (λ c κs. search needs) (λ c κs. search needs) returns (λ c κs. search needs) returns-2)

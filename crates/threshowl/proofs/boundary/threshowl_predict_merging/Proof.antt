@@ -7,7 +7,7 @@ use Rattle.rfc6386.specs.Vector.{fullPixel, sent}
 use Rattle.rfc6386.specs.Macroblock.{lent, whole, split}
 use Rattle.rfc6386.specs.Merging.{merge-alike}
 use Rattle.rfc6386.specs.Laws.Vectors.{vector}
-use Rattle.threshowl.specs.Boundary.{setOf, flagOf}
+use Rattle.threshowl.specs.Boundary.{setOf, flagOf, codeRefusal}
 use Rattle.threshowl.proofs.Laws.{left-as, codes-as}
 use Rattle.threshowl.proofs.boundary.threshowl_predict_merging.Statement.{statement}
 use Rattle.threshowl.proofs.boundary.threshowl_predict_merging.Tie as tie
@@ -44,7 +44,7 @@ returns c =
     (ap (whole set low ref (a .mb-col) (a .mb-row)) (vector (got w16 (v .row) (fits .0 .1) .is) (got w16 (v .col) (fits .1 .0 .1) .is))
     ∙ merge-alike set low ref (a .mb-col) (a .mb-row) mvs v (one .alike) (one .mergeable-is)
     ∙ ap (split set low ref (a .mb-col) (a .mb-row)) (d .mvs-of-bytes .ensures))
-    (codes-as (a .filter) _ (t .before .before .if1 .taken))
+    (codes-as (codeRefusal (a .filter)) _ (t .before .before .if1 .taken))
     (w .threshowl-predict-whole .ensures)
 
 threshowl-predict-split-requires : tie.Need-threshowl-predict-split-requires

@@ -1,0 +1,182 @@
+/*
+ * Prediction by version, run: every version number, whole and split, on good
+ * input, with each other fault alone, and with every other fault at once.
+ *
+ *   versions [SEED]
+ *
+ * Versions 0 to 3 must answer what the call with their table and flag answers.
+ * All others must be refused with 10, whatever else is at fault.  A refused call
+ * must keep every byte of its output.  Exit status: 0 as it should be, 1 not.
+ */
+#include <inttypes.h>
+#include <stdbool.h>
+#include <stdio.h>
+#include <stdlib.h>
+#include <string.h>
+
+#include "threshowl.h"
+
+enum { COLS = 3, ROWS = 2, Y_STRIDE = COLS * 16 + 5, U_STRIDE = COLS * 8 + 3, V_STRIDE = COLS * 8 };
+enum { Y_LEN = Y_STRIDE * ROWS * 16, U_LEN = U_STRIDE * ROWS * 8, V_LEN = V_STRIDE * ROWS * 8 };
+enum { VERSIONS = 256, KEPT = 0x5A, OUT = THRESHOWL_OUT_LEN };
+
+/* What a call is given besides its planes' bytes. */
+typedef struct {
+    size_t y_len, u_len, v_len, y_stride, u_stride, v_stride, cols, rows, col, row;
+    uint8_t vectors[THRESHOWL_VECTORS_LEN];
+    size_t vectors_len, out_len;
+} Call;
+
+typedef struct {
+    uint32_t number;
+    uint8_t out[OUT];
+} Answer;
+
+static uint8_t y[Y_LEN], u[U_LEN], v[V_LEN];
+
+/* ---- numbers drawn at random */
+
+static uint64_t state;
+
+static uint32_t draw(void)
+{
+    state ^= state << 13;
+    state ^= state >> 7;
+    state ^= state << 17;
+    return (uint32_t)(state >> 32);
+}
+
+static void fill(uint8_t *bytes, size_t len)
+{
+    for (size_t i = 0; i < len; i++)
+        bytes[i] = (uint8_t)draw();
+}
+
+/* ---- calls */
+
+/* A component of at most 16 luma pixels, or any. */
+static void draw_component(uint8_t *to)
+{
+    uint32_t drawn = draw();
+    int16_t z = (int16_t)(draw() & 1 ? drawn : (drawn & 127) - 64);
+    to[0] = (uint8_t)((uint16_t)z & 255);
+    to[1] = (uint8_t)((uint16_t)z >> 8);
+}
+
+static Call draw_call(void)
+{
+    Call c = {Y_LEN, U_LEN, V_LEN, Y_STRIDE, U_STRIDE, V_STRIDE, COLS, ROWS,
+              draw() % COLS, draw() % ROWS, {0}, THRESHOWL_VECTORS_LEN, OUT};
+    for (size_t i = 0; i < sizeof c.vectors; i += 2)
+        draw_component(c.vectors + i);
+    return c;
+}
+
+static int16_t component(const uint8_t *from)
+{
+    return (int16_t)(uint16_t)(from[0] | from[1] << 8);
+}
+
+#define PICTURE(c) \
+    y, (c)->y_len, u, (c)->u_len, v, (c)->v_len, (c)->y_stride, (c)->u_stride, (c)->v_stride, (c)->cols, (c)->rows, (c)->col, (c)->row
+#define VECTOR(c) component((c)->vectors), component((c)->vectors + 2)
+#define VECTORS(c) (c)->vectors, (c)->vectors_len
+
+static Answer by_version(bool split, const Call *c, uint8_t version)
+{
+    Answer a;
+    memset(a.out, KEPT, OUT);
+    a.number = split ? threshowl_predict_split_by_version(PICTURE(c), VECTORS(c), version, a.out, c->out_len)
+                     : threshowl_predict_whole_by_version(PICTURE(c), VECTOR(c), version, a.out, c->out_len);
+    return a;
+}
+
+static Answer by_codes(bool split, const Call *c, uint8_t filter, uint8_t full_pixel)
+{
+    Answer a;
+    memset(a.out, KEPT, OUT);
+    a.number = split ? threshowl_predict_split(PICTURE(c), VECTORS(c), filter, full_pixel, a.out, c->out_len)
+                     : threshowl_predict_whole(PICTURE(c), VECTOR(c), filter, full_pixel, a.out, c->out_len);
+    return a;
+}
+
+/* ---- faults */
+
+static void no_columns(Call *c) { c->cols = 0; }
+static void narrow(Call *c) { c->v_stride = V_STRIDE - 1; }
+static void short_plane(Call *c) { c->u_len = 0; }
+static void outside(Call *c) { c->row = ROWS; }
+static void short_vectors(Call *c) { c->vectors_len = THRESHOWL_VECTORS_LEN - 1; }
+static void short_out(Call *c) { c->out_len = OUT - 1; }
+
+static void (*const faults[])(Call *) = {no_columns, narrow, short_plane, outside, short_vectors, short_out};
+
+enum { FAULTS = sizeof faults / sizeof faults[0] };
+
+/* ---- sweeps */
+
+static uint64_t calls, wrong;
+
+static void count(bool good, const char *what, bool split, unsigned version, const Call *c)
+{
+    calls++;
+    if (good)
+        return;
+    if (wrong++ < 5)
+        printf("  wrong: %s, %s, version %u, at %zu %zu\n", what, split ? "split" : "whole", version, c->col, c->row);
+}
+
+static bool same(const Answer *a, const Answer *b)
+{
+    return a->number == b->number && memcmp(a->out, b->out, OUT) == 0;
+}
+
+static void check(const char *what, bool split, unsigned version, const Call *c)
+{
+    const Answer got = by_version(split, c, (uint8_t)version);
+    Answer due;
+    if (version > 3) {
+        due.number = THRESHOWL_RESERVED_VERSION;
+        memset(due.out, KEPT, OUT);
+    } else {
+        due = by_codes(split, c, version == 0 ? THRESHOWL_SIXTAP : THRESHOWL_BILINEAR, version == 3);
+    }
+    count(same(&got, &due), what, split, version, c);
+}
+
+static void every_version(const char *what, const Call *c)
+{
+    for (unsigned version = 0; version < VERSIONS; version++) {
+        check(what, false, version, c);
+        check(what, true, version, c);
+    }
+}
+
+static void with_faults(const Call *good)
+{
+    Call all = *good;
+    for (size_t i = 0; i < FAULTS; i++) {
+        Call one = *good;
+        faults[i](&one);
+        every_version("one fault", &one);
+        faults[i](&all);
+    }
+    every_version("every fault", &all);
+}
+
+int main(int argc, char **argv)
+{
+    state = argc > 1 ? strtoull(argv[1], NULL, 10) : 4;
+    if (state == 0)
+        state = 1;
+    for (int turn = 0; turn < 200; turn++) {
+        fill(y, sizeof y);
+        fill(u, sizeof u);
+        fill(v, sizeof v);
+        const Call c = draw_call();
+        every_version("good input", &c);
+        with_faults(&c);
+    }
+    printf("%" PRIu64 " calls by version, %" PRIu64 " wrong\n", calls, wrong);
+    return wrong == 0 ? 0 : 1;
+}
