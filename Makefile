@@ -13,6 +13,9 @@
 #   make ivf-evidence       mending at scale, on made and on real recordings
 #   make ivf-bench          its time beside that of copying
 #   make oracle RUST=SRC    compare with the original Rust in folder SRC
+#   make rfc-version3 RFC=FILE
+#                           run the decoder that RFC 6386 prints, given its text,
+#                           on version 3 beside the two modes of it here
 #   make bench RUST=SRC     time both in one run on this processor; bench/count
 #                           counts x86-64 instructions
 #   make install PREFIX=DIR header, library, pkg-config file and programs
@@ -27,7 +30,7 @@
 # RUSTC=..., see tests/x86-64.sh; the benchmark times a library made for that
 # processor, see bench/native-archive.
 
-VERSION = 0.3.0
+VERSION = 0.4.0
 PREFIX = /usr/local
 DESTDIR =
 ARCHIVE = target/staticlib/libthreshowl.a
@@ -57,7 +60,7 @@ EXPECTED = examples/lamp_panel.expected
 FREESTANDING = tests/freestanding/host.c
 
 .PHONY: demo demo-check check mirror versions oracle bench install install-check clean tools rust-named FORCE
-.PHONY: programs tools-check freestanding ivf-evidence ivf-bench
+.PHONY: programs tools-check freestanding ivf-evidence ivf-bench rfc-version3 rfc-named
 
 demo: target/demo/lamp_panel
 	$(EMULATOR) target/demo/lamp_panel target/demo
@@ -105,6 +108,9 @@ ivf-bench: $(ARCHIVE) | tools
 
 oracle: rust-named $(ARCHIVE) $(SHIMS)
 	tests/oracle/run "$(RUST)" "$(ARCHIVE)" $(SHIMS)
+
+rfc-version3: rfc-named $(ARCHIVE) | tools
+	CC="$(CC)" AS_C="$(AS_C)" EMULATOR="$(EMULATOR)" SEED="$(SEED)" tests/rfc/run-version3 "$(RFC)" "$(ARCHIVE)"
 
 bench: rust-named $(BENCHED)
 	bench/run "$(RUST)" $(BENCHED)
@@ -163,3 +169,6 @@ target/staticlib/lib%.a: FORCE
 
 rust-named:
 	@[ -n "$(RUST)" ] || { echo "say which Rust: make ... RUST=FOLDER-OF-motion_comp.rs" >&2; exit 2; }
+
+rfc-named:
+	@[ -n "$(RFC)" ] || { echo "say where the RFC is: make ... RFC=TEXT-OF-RFC-6386" >&2; exit 2; }

@@ -530,16 +530,16 @@ static void show_numbers(const Picture *p)
 
 /* ---- The version number of a frame's tag, handed over as it stands there ---- */
 
-static uint32_t whole_by_version(const Call *c, uint8_t version, Answer *a)
+static uint32_t whole_by_version(const Call *c, uint8_t version, uint8_t standard, Answer *a)
 {
     const Picture *p = c->picture;
     return threshowl_predict_whole_by_version(p->y, c->y_len, p->u, c->u_len, p->v, c->v_len,
                                               c->y_stride, c->u_stride, c->v_stride, c->mb_cols,
                                               c->mb_rows, c->mb_col, c->mb_row, c->row, c->col,
-                                              version, a->bytes, c->out_len);
+                                              version, standard, a->bytes, c->out_len);
 }
 
-static uint32_t split_by_version(const Call *c, uint8_t version, Answer *a)
+static uint32_t split_by_version(const Call *c, uint8_t version, uint8_t standard, Answer *a)
 {
     const Picture *p = c->picture;
     uint8_t vectors[THRESHOWL_VECTORS_LEN];
@@ -547,7 +547,8 @@ static uint32_t split_by_version(const Call *c, uint8_t version, Answer *a)
     return threshowl_predict_split_by_version(p->y, c->y_len, p->u, c->u_len, p->v, c->v_len,
                                               c->y_stride, c->u_stride, c->v_stride, c->mb_cols,
                                               c->mb_rows, c->mb_col, c->mb_row, vectors,
-                                              c->vectors_len, version, a->bytes, c->out_len);
+                                              c->vectors_len, version, standard, a->bytes,
+                                              c->out_len);
 }
 
 static void print_version(const char *words, uint32_t of_whole, uint32_t of_split)
@@ -565,10 +566,10 @@ static void show_version(const Picture *p, uint8_t version)
     c.filter = version == 0 ? THRESHOWL_SIXTAP : THRESHOWL_BILINEAR;
     c.full_pixel = version == 3;
     whole(&c, &by_codes);
-    numbers[0] = whole_by_version(&c, version, &by_number);
+    numbers[0] = whole_by_version(&c, version, 0, &by_number);
     expect(memcmp(&by_codes, &by_number, sizeof by_codes) == 0, "whole by version is whole");
     split(&c, &by_codes);
-    numbers[1] = split_by_version(&c, version, &by_number);
+    numbers[1] = split_by_version(&c, version, 0, &by_number);
     expect(memcmp(&by_codes, &by_number, sizeof by_codes) == 0, "split by version is split");
     snprintf(words, sizeof words, "version %u", version);
     print_version(words, numbers[0], numbers[1]);
@@ -580,13 +581,25 @@ static void show_reserved(const Picture *p)
     Call c = good_call(p, 0, 0);
     Answer a;
     size_t i;
-    print_version("version 5, which is reserved", whole_by_version(&c, 5, &a),
-                  split_by_version(&c, 5, &a));
+    print_version("version 5, which is reserved", whole_by_version(&c, 5, 0, &a),
+                  split_by_version(&c, 5, 0, &a));
     for (i = 0; i < FAULTS; i++)
         faults[i].commit(&c);
-    print_version("version 5, with every fault above", whole_by_version(&c, 5, &a),
-                  split_by_version(&c, 5, &a));
-    expect(split_by_version(&c, 5, &a) == THRESHOWL_RESERVED_VERSION, "5 is refused with 10");
+    print_version("version 5, with every fault above", whole_by_version(&c, 5, 0, &a),
+                  split_by_version(&c, 5, 0, &a));
+    expect(split_by_version(&c, 5, 0, &a) == THRESHOWL_RESERVED_VERSION, "5 is refused with 10");
+}
+
+/* Version 3 as the standard has it: luma keeps its fraction. */
+static void show_standard(const Picture *p)
+{
+    const Call c = good_call(p, 3, -5);
+    Answer by_rust, by_standard;
+    expect(whole_by_version(&c, 3, 0, &by_rust) == THRESHOWL_DONE, "a good call is done");
+    expect(whole_by_version(&c, 3, 1, &by_standard) == THRESHOWL_DONE, "a good call is done");
+    print_difference("version 3, two modes:", &by_rust, &by_standard);
+    expect(differing(&by_rust, &by_standard, OUT_U, THRESHOWL_OUT_LEN) == 0,
+           "the modes agree in U and V");
 }
 
 static void show_versions(const Picture *p)
@@ -597,6 +610,7 @@ static void show_versions(const Picture *p)
     for (version = 0; version < 4; version++)
         show_version(p, version);
     show_reserved(p);
+    show_standard(p);
 }
 
 int main(int argc, char **argv)

@@ -38,7 +38,12 @@
  *
  * A frame's version says both: 0 is six-tap, 1 to 3 are bilinear, and 3 has
  * full-pixel on.  The functions by version take that number as it stands in the
- * frame's tag.  All others are reserved, and refused.
+ * frame's tag.  All others are reserved, and refused.  standard chooses between
+ * two readings of full-pixel, which differ in version 3 alone, in Y:
+ *
+ *   0                luma and chroma vectors are lowered, as with full_pixel.
+ *   any other        chroma vectors alone are, as in the reference decoder of
+ *                    RFC 6386: the choice for streams of version 3.
  *
  *
  * The answer
@@ -165,7 +170,7 @@ uint32_t threshowl_predict_merging(
     uint8_t *out, size_t out_len);
 
 /*
- * Whole prediction with the table and the flag of a frame's version.  Gives 10,
+ * Whole prediction with the table and the rule of a frame's version.  Gives 10,
  * or 0, 1, 2, 3, 4 or 7.
  */
 uint32_t threshowl_predict_whole_by_version(
@@ -176,7 +181,7 @@ uint32_t threshowl_predict_whole_by_version(
     size_t mb_cols, size_t mb_rows,
     size_t mb_col, size_t mb_row,
     int16_t mv_row, int16_t mv_col,
-    uint8_t version,
+    uint8_t version, uint8_t standard,
     uint8_t *out, size_t out_len);
 
 /*
@@ -190,7 +195,7 @@ uint32_t threshowl_predict_split_by_version(
     size_t mb_cols, size_t mb_rows,
     size_t mb_col, size_t mb_row,
     const uint8_t *vectors, size_t vectors_len,
-    uint8_t version,
+    uint8_t version, uint8_t standard,
     uint8_t *out, size_t out_len);
 
 /*

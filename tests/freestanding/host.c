@@ -113,12 +113,12 @@ static int merging(void)
 
 static int whole_by_version(void)
 {
-    return predicted(threshowl_predict_whole_by_version(PICTURE, 0, COL, 1, out, sizeof out));
+    return predicted(threshowl_predict_whole_by_version(PICTURE, 0, COL, 1, 0, out, sizeof out));
 }
 
 static int split_by_version(void)
 {
-    return predicted(threshowl_predict_split_by_version(PICTURE, VECTORS, 2, out, sizeof out));
+    return predicted(threshowl_predict_split_by_version(PICTURE, VECTORS, 2, 1, out, sizeof out));
 }
 
 /* ---- Recordings: a complete frame, then five bytes of another ---- */

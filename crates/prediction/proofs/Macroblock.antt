@@ -1,11 +1,10 @@
 -- What follows where a macroblock is accepted: where it stands in its planes, and what its samples are. Assumes nothing.
 use mathlib.Core.Path.{_≡_, refl, sym, ap, ap₂, _∙_, subst}
-use mathlib.Core.Bool.{Bool}
 use mathlib.Core.List.{List, map}
 use Prim.Native.Nat.{ℕ, _+_, _*_, _<_, _≤_}
 use native.Mathlib.Nat.{mul-le-mul}
 use native.Mathlib.Omega.{arith}
-use Rattle.rfc6386.specs.Vector.{fullPixel, each, lowered, sent, quarterAverages, quarterVector}
+use Rattle.rfc6386.specs.Vector.{Lowering, each, lowered, sent, quarterAverages, quarterVector}
 use Rattle.rfc6386.specs.Picture.{Plane}
 use Rattle.rfc6386.specs.Refusal.{planeRefusal}
 use Rattle.rfc6386.specs.Block.{planeOf}
@@ -79,5 +78,5 @@ pub moved : (f : Place → Mv → List ℕ) {l : List ℕ} {p q : Place} {m k : 
 moved f e p m = e ∙ ap₂ f p m
 
 -- the vector of quarter q, from the four of the code
-pub quarter-of : (b : Bool) (vs : List Mv) (q : ℕ) → q < 4 → sent (map (each (lowered b)) (quarterAverages vs)) q ≡ quarterVector (fullPixel b) vs q
-quarter-of b vs q h = below (λ q. sent (map (each (lowered b)) (quarterAverages vs)) q ≡ quarterVector (fullPixel b) vs q) 4 (refl, (refl, (refl, (refl, tt)))) q h
+pub quarter-of : (low : Lowering) (vs : List Mv) (q : ℕ) → q < 4 → sent (map (each (lowered (low .chroma))) (quarterAverages vs)) q ≡ quarterVector low vs q
+quarter-of low vs q h = below (λ q. sent (map (each (lowered (low .chroma))) (quarterAverages vs)) q ≡ quarterVector low vs q) 4 (refl, (refl, (refl, (refl, tt)))) q h

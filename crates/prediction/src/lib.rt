@@ -20,9 +20,11 @@ pub use fetch::plane_refusal;
 
 // 6 and 7: macroblocks
 pub use predict::predict_inter_mb;
+pub use predict::predict_inter_mb_lowered;
 pub use predict::predict_inter_mb_whole_pixel;
 pub use predict::predict_merging;
 pub use predict::predict_split_mv;
+pub use predict::predict_split_mv_lowered;
 
 // and how two numbers become one, and what is answered with a number alone
 pub use predict::refused;

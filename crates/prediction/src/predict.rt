@@ -38,8 +38,8 @@ pub fn refused(number: u32) -> Prediction
     }
 }
 
-// One vector for the macroblock.
-pub fn predict_inter_mb(
+// One vector for the macroblock. Whether luma, and whether chroma, is lowered to whole pixels is said apart.
+pub fn predict_inter_mb_lowered(
     y: &[u8],
     u: &[u8],
     v: &[u8],
@@ -47,17 +47,18 @@ pub fn predict_inter_mb(
     mb_col: usize,
     mb_row: usize,
     luma_mv: Mv,
-    full_pixel: bool,
+    lower_luma: bool,
+    lower_chroma: bool,
     set: FilterSet,
 ) -> Prediction
-    ensures { λ r. ⌜ r ≡ whole set (fullPixel «full_pixel») (lent (now (y .entry)) (now (u .entry)) (now (v .entry)) sizes) «mb_col» «mb_row» «luma_mv» ⌝ }
+    ensures { λ r. ⌜ r ≡ whole set (record { luma = «lower_luma»; chroma = «lower_chroma» }) (lent (now (y .entry)) (now (u .entry)) (now (v .entry)) sizes) «mb_col» «mb_row» «luma_mv» ⌝ }
 {
     let number = refusal(y, u, v, sizes, mb_col, mb_row);
     if number != 0 {
         return refused(number);
     }
-    let luma = luma_vector(luma_mv, full_pixel);
-    let chroma = chroma_vector(luma_mv, full_pixel);
+    let luma = luma_vector(luma_mv, lower_luma);
+    let chroma = chroma_vector(luma_mv, lower_chroma);
     let y_at = place_of(sizes, mb_col, mb_row, 16);
     let uv_at = place_of(sizes, mb_col, mb_row, 8);
     Prediction {
@@ -86,6 +87,34 @@ pub fn predict_inter_mb(
             ),
         },
     }
+}
+
+// One flag for both.
+pub fn predict_inter_mb(
+    y: &[u8],
+    u: &[u8],
+    v: &[u8],
+    sizes: Sizes,
+    mb_col: usize,
+    mb_row: usize,
+    luma_mv: Mv,
+    full_pixel: bool,
+    set: FilterSet,
+) -> Prediction
+    ensures { λ r. ⌜ r ≡ whole set (fullPixel «full_pixel») (lent (now (y .entry)) (now (u .entry)) (now (v .entry)) sizes) «mb_col» «mb_row» «luma_mv» ⌝ }
+{
+    predict_inter_mb_lowered(
+        y,
+        u,
+        v,
+        sizes,
+        mb_col,
+        mb_row,
+        luma_mv,
+        full_pixel,
+        full_pixel,
+        set,
+    )
 }
 
 // Number 8 where a fraction is left, in any plane.
@@ -150,8 +179,8 @@ pub fn predict_inter_mb_whole_pixel(
     }
 }
 
-// A vector for each of the sixteen 4x4 luma blocks.
-pub fn predict_split_mv(
+// A vector for each of the sixteen 4x4 luma blocks; luma and chroma are lowered apart.
+pub fn predict_split_mv_lowered(
     y: &[u8],
     u: &[u8],
     v: &[u8],
@@ -159,16 +188,17 @@ pub fn predict_split_mv(
     mb_col: usize,
     mb_row: usize,
     split_luma_mvs: [Mv; 16],
-    full_pixel: bool,
+    lower_luma: bool,
+    lower_chroma: bool,
     set: FilterSet,
 ) -> Prediction
-    ensures { λ r. ⌜ r ≡ split set (fullPixel «full_pixel») (lent (now (y .entry)) (now (u .entry)) (now (v .entry)) sizes) «mb_col» «mb_row» «split_luma_mvs» ⌝ }
+    ensures { λ r. ⌜ r ≡ split set (record { luma = «lower_luma»; chroma = «lower_chroma» }) (lent (now (y .entry)) (now (u .entry)) (now (v .entry)) sizes) «mb_col» «mb_row» «split_luma_mvs» ⌝ }
 {
     let number = refusal(y, u, v, sizes, mb_col, mb_row);
     if number != 0 {
         return refused(number);
     }
-    let chroma = quarter_vectors(split_luma_mvs, full_pixel);
+    let chroma = quarter_vectors(split_luma_mvs, lower_chroma);
     let y_at = place_of(sizes, mb_col, mb_row, 16);
     let uv_at = place_of(sizes, mb_col, mb_row, 8);
     Prediction {
@@ -182,7 +212,7 @@ pub fn predict_split_mv(
                 y_at.x,
                 y_at.y,
                 split_luma_mvs,
-                full_pixel,
+                lower_luma,
                 set,
             ),
             u: split_chroma(
@@ -207,6 +237,34 @@ pub fn predict_split_mv(
             ),
         },
     }
+}
+
+// One flag for both.
+pub fn predict_split_mv(
+    y: &[u8],
+    u: &[u8],
+    v: &[u8],
+    sizes: Sizes,
+    mb_col: usize,
+    mb_row: usize,
+    split_luma_mvs: [Mv; 16],
+    full_pixel: bool,
+    set: FilterSet,
+) -> Prediction
+    ensures { λ r. ⌜ r ≡ split set (fullPixel «full_pixel») (lent (now (y .entry)) (now (u .entry)) (now (v .entry)) sizes) «mb_col» «mb_row» «split_luma_mvs» ⌝ }
+{
+    predict_split_mv_lowered(
+        y,
+        u,
+        v,
+        sizes,
+        mb_col,
+        mb_row,
+        split_luma_mvs,
+        full_pixel,
+        full_pixel,
+        set,
+    )
 }
 
 // Split prediction, by one whole prediction where the sixteen vectors are one.

@@ -161,28 +161,28 @@ pub answers-agree-exactly : (set : FilterSet) (flag : Bool) (v : Mv) → SFits w
 answers-agree-exactly set flag = results-agree-exactly set (fullPixel flag)
 
 -- by version
-abbrev pub WholeGivesByVersion : ℕ → Place → Mv → Prediction → Type 0
-WholeGivesByVersion version p v r = r ≡ wholeByVersion version (lentAt p) (p .col) (p .row) v
+abbrev pub WholeGivesByVersion : ℕ → Bool → Place → Mv → Prediction → Type 0
+WholeGivesByVersion version standard p v r = r ≡ wholeByVersion version standard (lentAt p) (p .col) (p .row) v
 
-abbrev pub SplitGivesByVersion : ℕ → Place → List Mv → Prediction → Type 0
-SplitGivesByVersion version p vs r = r ≡ splitByVersion version (lentAt p) (p .col) (p .row) vs
+abbrev pub SplitGivesByVersion : ℕ → Bool → Place → List Mv → Prediction → Type 0
+SplitGivesByVersion version standard p vs r = r ≡ splitByVersion version standard (lentAt p) (p .col) (p .row) vs
 
-pub answers-agree-exactly-by-version : (version : ℕ) → version ≤ 3 → (v : Mv) → SFits w16 (v .row) → SFits w16 (v .col)
-    → ((p : Place) → OfTypes p → (r s : Prediction) → WholeGivesByVersion version p v r → SplitGivesByVersion version p (sixteen v) s → r ≡ s) ↔ (mergeable v ≡ true)
-answers-agree-exactly-by-version version h v fr fc =
-    let exactly = results-agree-exactly (versionSet version) (versionLowering version) v fr fc in (
+pub answers-agree-exactly-by-version : (version : ℕ) → version ≤ 3 → (standard : Bool) (v : Mv) → SFits w16 (v .row) → SFits w16 (v .col)
+    → ((p : Place) → OfTypes p → (r s : Prediction) → WholeGivesByVersion version standard p v r → SplitGivesByVersion version standard p (sixteen v) s → r ≡ s) ↔ (mergeable v ≡ true)
+answers-agree-exactly-by-version version h standard v fr fc =
+    let exactly = results-agree-exactly (versionSet version) (versionLowering version standard) v fr fc in (
       λ same. exactly .0 (λ p t r s a b. same p t r s (a ∙ sym (as-whole p)) (b ∙ sym (as-split p))),
       λ e p t r s a b. exactly .1 e p t r s (a ∙ as-whole p) (b ∙ as-split p),
     )
   where
-    as-whole : (p : Place) → wholeByVersion version (lentAt p) (p .col) (p .row) v ≡ whole (versionSet version) (versionLowering version) (lentAt p) (p .col) (p .row) v
-    as-whole p = whole-meant version (lentAt p) (p .col) (p .row) h v
+    as-whole : (p : Place) → wholeByVersion version standard (lentAt p) (p .col) (p .row) v ≡ whole (versionSet version) (versionLowering version standard) (lentAt p) (p .col) (p .row) v
+    as-whole p = whole-meant version standard (lentAt p) (p .col) (p .row) h v
 
-    as-split : (p : Place) → splitByVersion version (lentAt p) (p .col) (p .row) (sixteen v) ≡ split (versionSet version) (versionLowering version) (lentAt p) (p .col) (p .row) (sixteen v)
-    as-split p = split-meant version (lentAt p) (p .col) (p .row) h (sixteen v)
+    as-split : (p : Place) → splitByVersion version standard (lentAt p) (p .col) (p .row) (sixteen v) ≡ split (versionSet version) (versionLowering version standard) (lentAt p) (p .col) (p .row) (sixteen v)
+    as-split p = split-meant version standard (lentAt p) (p .col) (p .row) h (sixteen v)
 
 -- results with a reserved version are alike: refused by 10
-pub answers-refused-alike : (version : ℕ) → 3 < version → (p : Place) (v : Mv) (vs : List Mv) (r s : Prediction)
-    → WholeGivesByVersion version p v r → SplitGivesByVersion version p vs s → (r ≡ reservedVersion) × (s ≡ reservedVersion)
-answers-refused-alike version h p v vs r s a b =
-    (a ∙ whole-reserved version (lentAt p) (p .col) (p .row) h v, b ∙ split-reserved version (lentAt p) (p .col) (p .row) h vs)
+pub answers-refused-alike : (version : ℕ) → 3 < version → (standard : Bool) (p : Place) (v : Mv) (vs : List Mv) (r s : Prediction)
+    → WholeGivesByVersion version standard p v r → SplitGivesByVersion version standard p vs s → (r ≡ reservedVersion) × (s ≡ reservedVersion)
+answers-refused-alike version h standard p v vs r s a b =
+    (a ∙ whole-reserved version standard (lentAt p) (p .col) (p .row) h v, b ∙ split-reserved version standard (lentAt p) (p .col) (p .row) h vs)

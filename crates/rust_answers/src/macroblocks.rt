@@ -69,7 +69,7 @@ fn whole(y: &[u8], u: &[u8], v: &[u8], sizes: Sizes, r: &[u8], t: Tally) -> Tall
     if !has_version(filter, flag) {
         return held;
     }
-    let q = predict_inter_mb_by_version(y, u, v, sizes, col, row, mv, byte_at(r, 4));
+    let q = predict_inter_mb_by_version(y, u, v, sizes, col, row, mv, byte_at(r, 4), false);
     counted(held, WHOLE_BY_VERSION, is(q, answer))
 }
 
@@ -87,7 +87,7 @@ fn split(y: &[u8], u: &[u8], v: &[u8], sizes: Sizes, r: &[u8], t: Tally) -> Tall
     if !has_version(filter, flag) {
         return merged;
     }
-    let q = predict_split_mv_by_version(y, u, v, sizes, col, row, mvs, byte_at(r, 4));
+    let q = predict_split_mv_by_version(y, u, v, sizes, col, row, mvs, byte_at(r, 4), false);
     counted(merged, SPLIT_BY_VERSION, is(q, answer))
 }
 

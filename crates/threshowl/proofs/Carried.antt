@@ -98,12 +98,12 @@ abbrev pub SplitLeaves : ℕ → ℕ → Place → List ℕ → List ℕ → ℕ
 SplitLeaves filter flag = SplitOf (setOf filter) (fullPixel (flagOf flag)) (codeRefusal filter)
 
 -- of threshowl_predict_whole_by_version and threshowl_predict_split_by_version
-abbrev pub WholeLeavesByVersion : ℕ → Place → Mv → List ℕ → ℕ → List ℕ → Type 0
-WholeLeavesByVersion version p v out r out′ = Left (wholeByVersion version (lentAt p) (p .col) (p .row) v) 0 out r out′
+abbrev pub WholeLeavesByVersion : ℕ → ℕ → Place → Mv → List ℕ → ℕ → List ℕ → Type 0
+WholeLeavesByVersion version standard p v out r out′ = Left (wholeByVersion version (flagOf standard) (lentAt p) (p .col) (p .row) v) 0 out r out′
 
-abbrev pub SplitLeavesByVersion : ℕ → Place → List ℕ → List ℕ → ℕ → List ℕ → Type 0
-SplitLeavesByVersion version p vectors out r out′ =
-    Left (splitByVersion version (lentAt p) (p .col) (p .row) (vectorsOf vectors)) (countRefusal 64 (length vectors)) out r out′
+abbrev pub SplitLeavesByVersion : ℕ → ℕ → Place → List ℕ → List ℕ → ℕ → List ℕ → Type 0
+SplitLeavesByVersion version standard p vectors out r out′ =
+    Left (splitByVersion version (flagOf standard) (lentAt p) (p .col) (p .row) (vectorsOf vectors)) (countRefusal 64 (length vectors)) out r out′
 
 -- ---- demand 3
 -- two calls that are done, and differ in byte i of 384
@@ -226,28 +226,28 @@ pub codes-agree-exactly : (filter flag : ℕ) (v : Mv) → SFits w16 (v .row) �
 codes-agree-exactly filter flag v fr fc h =
     outputs-agree-exactly (setOf filter) (fullPixel (flagOf flag)) (codeRefusal filter) v fr fc (ap (λ (x : Bool). cond x 5 0) (le-ltb 1 filter h))
 
--- of the calls by version, from 0 to 3
-pub versions-agree-exactly : (version : ℕ) → version ≤ 3 → (v : Mv) → SFits w16 (v .row) → SFits w16 (v .col)
+-- of the calls by version, from 0 to 3, in either mode
+pub versions-agree-exactly : (version : ℕ) → version ≤ 3 → (standard : ℕ) (v : Mv) → SFits w16 (v .row) → SFits w16 (v .col)
     → ((p : Place) → OfTypes p → (out : List ℕ) → ((i : ℕ) → getD out i 0 ≤ 255) → (r s : ℕ) (a b : List ℕ)
-    → WholeLeavesByVersion version p v out r a → SplitLeavesByVersion version p (sixteenSpelled v) out s b → (r ≡ s) × (a ≡ b))
+    → WholeLeavesByVersion version standard p v out r a → SplitLeavesByVersion version standard p (sixteenSpelled v) out s b → (r ≡ s) × (a ≡ b))
     ↔ (mergeable v ≡ true)
-versions-agree-exactly version h v fr fc =
-    let exactly = outputs-agree-exactly (versionSet version) (versionLowering version) 0 v fr fc refl in (
+versions-agree-exactly version h standard v fr fc =
+    let exactly = outputs-agree-exactly (versionSet version) (versionLowering version (flagOf standard)) 0 v fr fc refl in (
       λ same. exactly .0 (λ p t out k r s a b L M. same p t out k r s a b (left-as (sym (as-whole p)) refl L) (left-as (sym (as-split p _)) refl M)),
       λ e p t out k r s a b L M. exactly .1 e p t out k r s a b (left-as (as-whole p) refl L) (left-as (as-split p _) refl M),
     )
   where
-    as-whole : (p : Place) → wholeByVersion version (lentAt p) (p .col) (p .row) v ≡ whole (versionSet version) (versionLowering version) (lentAt p) (p .col) (p .row) v
-    as-whole p = whole-meant version (lentAt p) (p .col) (p .row) h v
+    as-whole : (p : Place) → wholeByVersion version (flagOf standard) (lentAt p) (p .col) (p .row) v ≡ whole (versionSet version) (versionLowering version (flagOf standard)) (lentAt p) (p .col) (p .row) v
+    as-whole p = whole-meant version (flagOf standard) (lentAt p) (p .col) (p .row) h v
 
-    as-split : (p : Place) (vs : List Mv) → splitByVersion version (lentAt p) (p .col) (p .row) vs ≡ split (versionSet version) (versionLowering version) (lentAt p) (p .col) (p .row) vs
-    as-split p vs = split-meant version (lentAt p) (p .col) (p .row) h vs
+    as-split : (p : Place) (vs : List Mv) → splitByVersion version (flagOf standard) (lentAt p) (p .col) (p .row) vs ≡ split (versionSet version) (versionLowering version (flagOf standard)) (lentAt p) (p .col) (p .row) vs
+    as-split p vs = split-meant version (flagOf standard) (lentAt p) (p .col) (p .row) h vs
 
 -- and with any other version both refuse by 10, and keep the output
-pub versions-refused-alike : (version : ℕ) → 3 < version → (p : Place) (v : Mv) (vectors out : List ℕ) (r s : ℕ) (a b : List ℕ)
-    → WholeLeavesByVersion version p v out r a → SplitLeavesByVersion version p vectors out s b → ((r ≡ 10) × (a ≡ out)) × ((s ≡ 10) × (b ≡ out))
-versions-refused-alike version h p v vectors out r s a b L M = (
-  one-outcome (left-as (whole-reserved version (lentAt p) (p .col) (p .row) h v) refl L) (left-refused reservedVersion 0 out 10 refl (λ z. omega arith)),
-  one-outcome (left-as (split-reserved version (lentAt p) (p .col) (p .row) h (vectorsOf vectors)) refl M)
+pub versions-refused-alike : (version : ℕ) → 3 < version → (standard : ℕ) (p : Place) (v : Mv) (vectors out : List ℕ) (r s : ℕ) (a b : List ℕ)
+    → WholeLeavesByVersion version standard p v out r a → SplitLeavesByVersion version standard p vectors out s b → ((r ≡ 10) × (a ≡ out)) × ((s ≡ 10) × (b ≡ out))
+versions-refused-alike version h standard p v vectors out r s a b L M = (
+  one-outcome (left-as (whole-reserved version (flagOf standard) (lentAt p) (p .col) (p .row) h v) refl L) (left-refused reservedVersion 0 out 10 refl (λ z. omega arith)),
+  one-outcome (left-as (split-reserved version (flagOf standard) (lentAt p) (p .col) (p .row) h (vectorsOf vectors)) refl M)
       (left-refused reservedVersion (countRefusal 64 (length vectors)) out 10 refl (λ z. omega arith)),
 )

@@ -10,25 +10,25 @@ use lib.ListN.{length, getD, set, drop, length-append, length-drop, drop-of-leng
 use lib.Seq.{paste, paste-suc, getD-set-same, getD-set-other, take-at, take-length, drop-append-add}
 use lib.IntN.{pos, negsuc, _-ℤ_}
 use mir.Syntax.{w16}
-use mir.Val.{SFits, toZ, ofZ, boolByte}
+use mir.Val.{SFits, toZ, ofZ}
 use mir.Facts.{toZ-pos}
 use borrow.Author.Tests.{eqb-true}
 use borrow.Author.Count.{below-more}
 use Rattle.signed.specs.Int.{int, diff}
 use Rattle.signed.specs.Held.{Held, nat-at, lit-neg, sub, sub-need}
 use Rattle.rfc6386.specs.Number.{wrap16}
-use Rattle.rfc6386.specs.Vector.{Lowering, fullPixel}
+use Rattle.rfc6386.specs.Vector.{Lowering}
 use Rattle.rfc6386.specs.Filter.{versionProfile}
 use Rattle.rfc6386.specs.Refusal.{orElse}
 use Rattle.rfc6386.specs.Version.{reservedVersion, byVersion}
 use Rattle.rfc6386.specs.Promises.{one-result}
 use Rattle.rfc6386.specs.Laws.Vectors.{wrap-in, wrap-high}
 use Rattle.rfc6386.specs.Laws.Refusals.{done, refused}
-use Rattle.rfc6386.specs.Laws.Versions.{refused-by, predicted-by}
+use Rattle.rfc6386.specs.Laws.Versions.{refused-by}
 use Rattle.entries.specs.Lists.{countRefusal}
-use Rattle.threshowl.specs.Boundary.{setOf, codeOf, flagOf, codeRefusal, flat, roomRefusal, callNumber, Left}
+use Rattle.threshowl.specs.Boundary.{setOf, flat, roomRefusal, callNumber, Left}
 use Rattle.rfc6386.specs.declared.FilterSet.{FilterSet}
-use Rattle.rfc6386.specs.declared.FilterSet.the-variants.{Sixtap, Bilinear}
+use Rattle.rfc6386.specs.declared.FilterSet.the-variants.{Bilinear}
 use Rattle.rfc6386.specs.declared.Profile.{Profile}
 use Rattle.rfc6386.specs.declared.Prediction.{Prediction}
 
@@ -124,27 +124,10 @@ or-none (suc n) = refl
 pub codes-as : (n count : ℕ) → count ≡ 64 → n ≡ orElse n (countRefusal 64 count)
 codes-as n count e = sym (or-none n) ∙ ap (λ (m : ℕ). orElse n (countRefusal 64 m)) (sym e)
 
--- ---- by version: the codes of its table and its flag, and its refusal
-set-code : (set : FilterSet) → setOf (codeOf set) ≡ set
-set-code Sixtap = refl
-set-code Bilinear = refl
-
-pub code-taken : (set : FilterSet) → codeRefusal (codeOf set) ≡ 0
-code-taken Sixtap = refl
-code-taken Bilinear = refl
-
-flag-byte : (b : Bool) → flagOf (boolByte b) ≡ b
-flag-byte true = refl
-flag-byte false = refl
-
-module _ (version : ℕ) {p : Profile} (is : p ≡ versionProfile version) (predict : FilterSet → Lowering → Prediction) where
-  pub coded-by : {code : ℕ} → code ≡ codeOf (p .set) → p .reserved ≡ false
-      → predict (setOf code) (fullPixel (flagOf (boolByte (p .«full_pixel»)))) ≡ byVersion version predict
-  coded-by e r =
-      ap₂ (λ (s : FilterSet) (b : Bool). predict s (fullPixel b)) (ap setOf e ∙ set-code (p .set)) (flag-byte (p .«full_pixel»)) ∙ predicted-by version is predict r
-
-  pub left-reserved : (codes : ℕ) (out : List ℕ) → p .reserved ≡ true → Left (byVersion version predict) codes out 10 out
-  left-reserved codes out r = left-as (refused-by version is predict r) refl (left-refused reservedVersion codes out 10 refl (λ z. omega arith))
+-- a call by version, whose profile p says that the version is reserved
+module _ (version : ℕ) (standard : Bool) {p : Profile} (is : p ≡ versionProfile version) (predict : FilterSet → Lowering → Prediction) where
+  pub left-reserved : (codes : ℕ) (out : List ℕ) → p .reserved ≡ true → Left (byVersion version standard predict) codes out 10 out
+  left-reserved codes out r = left-as (refused-by version standard is predict r) refl (left-refused reservedVersion codes out 10 refl (λ z. omega arith))
 
 -- ---- THEOREM. No two outcomes meet the contract of a C function: its number, and the bytes that it leaves.
 pub one-outcome : {p : Prediction} {codes : ℕ} {out : List ℕ} {r s : ℕ} {a b : List ℕ} → Left p codes out r a → Left p codes out s b → (r ≡ s) × (a ≡ b)

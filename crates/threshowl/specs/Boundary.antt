@@ -22,10 +22,6 @@ abbrev pub setOf : ℕ → FilterSet
 setOf zero = Sixtap
 setOf (suc n) = Bilinear
 
-abbrev pub codeOf : FilterSet → ℕ
-codeOf Sixtap = 0
-codeOf Bilinear = 1
-
 abbrev pub codeRefusal : ℕ → ℕ
 codeRefusal code = cond (ltb 1 code) 5 0
 

@@ -11,8 +11,8 @@ use crate::refusals::room_refusal;
 use crate::vectors::mvs_of_bytes;
 use motion_vectors::are_one;
 use prediction::or_else;
-use prediction::predict_inter_mb;
-use prediction::predict_split_mv;
+use prediction::predict_inter_mb_lowered;
+use prediction::predict_split_mv_lowered;
 use rfc6386::FilterSet;
 use rfc6386::Mv;
 use rfc6386::Prediction;
@@ -49,6 +49,71 @@ fn finish(p: Prediction, codes: u32, out: &mut [u8]) -> u32
     0
 }
 
+// Whole prediction into a lent output. Every call for C that predicts whole makes this one, and so `predict_inter_mb_lowered` has one caller in
+// the library, and the compiler inlines it.
+pub fn whole_into(
+    y: &[u8],
+    u: &[u8],
+    v: &[u8],
+    sizes: Sizes,
+    mb_col: usize,
+    mb_row: usize,
+    mv: Mv,
+    lower_luma: bool,
+    lower_chroma: bool,
+    set: FilterSet,
+    codes: u32,
+    out: &mut [u8],
+) -> u32
+    ensures { λ r. ⌜ Left (whole set (record { luma = «lower_luma»; chroma = «lower_chroma» }) (lent (now (y .entry)) (now (u .entry)) (now (v .entry)) sizes) «mb_col» «mb_row» mv) codes (now (out .entry)) r (now (out .exit)) ⌝ }
+{
+    let p = predict_inter_mb_lowered(
+        y,
+        u,
+        v,
+        sizes,
+        mb_col,
+        mb_row,
+        mv,
+        lower_luma,
+        lower_chroma,
+        set,
+    );
+    finish(p, codes, out)
+}
+
+// Split prediction likewise.
+pub fn split_into(
+    y: &[u8],
+    u: &[u8],
+    v: &[u8],
+    sizes: Sizes,
+    mb_col: usize,
+    mb_row: usize,
+    mvs: [Mv; 16],
+    lower_luma: bool,
+    lower_chroma: bool,
+    set: FilterSet,
+    codes: u32,
+    out: &mut [u8],
+) -> u32
+    ensures { λ r. ⌜ Left (split set (record { luma = «lower_luma»; chroma = «lower_chroma» }) (lent (now (y .entry)) (now (u .entry)) (now (v .entry)) sizes) «mb_col» «mb_row» mvs) codes (now (out .entry)) r (now (out .exit)) ⌝ }
+{
+    let p = predict_split_mv_lowered(
+        y,
+        u,
+        v,
+        sizes,
+        mb_col,
+        mb_row,
+        mvs,
+        lower_luma,
+        lower_chroma,
+        set,
+    );
+    finish(p, codes, out)
+}
+
 #[no_mangle]
 pub extern "C" fn threshowl_predict_whole(
     y: &[u8],
@@ -80,7 +145,8 @@ pub extern "C" fn threshowl_predict_whole(
         row: mv_row,
         col: mv_col,
     };
-    let p = predict_inter_mb(
+    let lower = full_pixel != 0;
+    whole_into(
         y,
         u,
         v,
@@ -88,10 +154,12 @@ pub extern "C" fn threshowl_predict_whole(
         mb_col,
         mb_row,
         mv,
-        full_pixel != 0,
+        lower,
+        lower,
         set_of(filter),
-    );
-    finish(p, code_refusal(filter), out)
+        code_refusal(filter),
+        out,
+    )
 }
 
 #[no_mangle]
@@ -120,23 +188,24 @@ pub extern "C" fn threshowl_predict_split(
         mb_cols,
         mb_rows,
     };
-    let mvs = mvs_of_bytes(vectors);
-    let p = predict_split_mv(
+    let lower = full_pixel != 0;
+    split_into(
         y,
         u,
         v,
         sizes,
         mb_col,
         mb_row,
-        mvs,
-        full_pixel != 0,
+        mvs_of_bytes(vectors),
+        lower,
+        lower,
         set_of(filter),
-    );
-    finish(p, codes_refusal(filter, vectors.len()), out)
+        codes_refusal(filter, vectors.len()),
+        out,
+    )
 }
 
-// Split prediction, by the whole call where the sixteen vectors are one: so `predict_inter_mb` has one caller here, and the compiler inlines
-// it.
+// Split prediction, by the whole call where the sixteen vectors are one.
 #[no_mangle]
 pub extern "C" fn threshowl_predict_merging(
     y: &[u8],

@@ -1,24 +1,19 @@
 // Prediction by a frame's version number, for C: so that a host hands over what stands in the frame's tag, and need not translate it. A
-// reserved number is refused with 10, before every other test.
-ghost use mathlib.Core.Path.{_≡_};
+// reserved number is refused with 10, before every other test. `standard` chooses what full-pixel lowers: with 0 luma and chroma, with any
+// other value chroma alone.
 ghost use lib.ListN.{length};
 ghost use Rattle.rfc6386.specs.Macroblock.{lent};
 ghost use Rattle.rfc6386.specs.Version.{wholeByVersion, splitByVersion};
 ghost use Rattle.entries.specs.Lists.{countRefusal};
-ghost use Rattle.threshowl.specs.Boundary.{codeOf, vectorsOf, Left};
-use crate::boundary::threshowl_predict_split;
-use crate::boundary::threshowl_predict_whole;
-use rfc6386::FilterSet;
+ghost use Rattle.threshowl.specs.Boundary.{flagOf, vectorsOf, Left};
+use crate::boundary::split_into;
+use crate::boundary::whole_into;
+use crate::refusals::count_refusal;
+use crate::vectors::mvs_of_bytes;
+use rfc6386::Mv;
+use rfc6386::Sizes;
+use versions::lowers_luma;
 use versions::profile_for_version;
-
-fn code_of(set: FilterSet) -> u8
-    ensures { λ r. ⌜ r ≡ codeOf set ⌝ }
-{
-    match set {
-        FilterSet::Sixtap => 0,
-        FilterSet::Bilinear => 1,
-    }
-}
 
 #[no_mangle]
 pub extern "C" fn threshowl_predict_whole_by_version(
@@ -35,30 +30,39 @@ pub extern "C" fn threshowl_predict_whole_by_version(
     mv_row: i16,
     mv_col: i16,
     version: u8,
+    standard: u8,
     out: &mut [u8],
 ) -> u32
-    ensures { λ r. ⌜ Left (wholeByVersion version (lent (now (y .entry)) (now (u .entry)) (now (v .entry)) (record { «y_stride» = «y_stride»; «u_stride» = «u_stride»; «v_stride» = «v_stride»; «mb_cols» = «mb_cols»; «mb_rows» = «mb_rows» })) «mb_col» «mb_row» (record { row = «mv_row»; col = «mv_col» })) 0 (now (out .entry)) r (now (out .exit)) ⌝ }
+    ensures { λ r. ⌜ Left (wholeByVersion version (flagOf standard) (lent (now (y .entry)) (now (u .entry)) (now (v .entry)) (record { «y_stride» = «y_stride»; «u_stride» = «u_stride»; «v_stride» = «v_stride»; «mb_cols» = «mb_cols»; «mb_rows» = «mb_rows» })) «mb_col» «mb_row» (record { row = «mv_row»; col = «mv_col» })) 0 (now (out .entry)) r (now (out .exit)) ⌝ }
 {
     let profile = profile_for_version(version);
     if profile.reserved {
         return 10;
     }
     let set = profile.set;
-    threshowl_predict_whole(
-        y,
-        u,
-        v,
+    let sizes = Sizes {
         y_stride,
         u_stride,
         v_stride,
         mb_cols,
         mb_rows,
+    };
+    let mv = Mv {
+        row: mv_row,
+        col: mv_col,
+    };
+    whole_into(
+        y,
+        u,
+        v,
+        sizes,
         mb_col,
         mb_row,
-        mv_row,
-        mv_col,
-        code_of(set),
-        profile.full_pixel as u8,
+        mv,
+        lowers_luma(profile.full_pixel, standard != 0),
+        profile.full_pixel,
+        set,
+        0,
         out,
     )
 }
@@ -77,29 +81,35 @@ pub extern "C" fn threshowl_predict_split_by_version(
     mb_row: usize,
     vectors: &[u8],
     version: u8,
+    standard: u8,
     out: &mut [u8],
 ) -> u32
-    ensures { λ r. ⌜ Left (splitByVersion version (lent (now (y .entry)) (now (u .entry)) (now (v .entry)) (record { «y_stride» = «y_stride»; «u_stride» = «u_stride»; «v_stride» = «v_stride»; «mb_cols» = «mb_cols»; «mb_rows» = «mb_rows» })) «mb_col» «mb_row» (vectorsOf (now (vectors .entry)))) (countRefusal 64 (length (now (vectors .entry)))) (now (out .entry)) r (now (out .exit)) ⌝ }
+    ensures { λ r. ⌜ Left (splitByVersion version (flagOf standard) (lent (now (y .entry)) (now (u .entry)) (now (v .entry)) (record { «y_stride» = «y_stride»; «u_stride» = «u_stride»; «v_stride» = «v_stride»; «mb_cols» = «mb_cols»; «mb_rows» = «mb_rows» })) «mb_col» «mb_row» (vectorsOf (now (vectors .entry)))) (countRefusal 64 (length (now (vectors .entry)))) (now (out .entry)) r (now (out .exit)) ⌝ }
 {
     let profile = profile_for_version(version);
     if profile.reserved {
         return 10;
     }
     let set = profile.set;
-    threshowl_predict_split(
-        y,
-        u,
-        v,
+    let sizes = Sizes {
         y_stride,
         u_stride,
         v_stride,
         mb_cols,
         mb_rows,
+    };
+    split_into(
+        y,
+        u,
+        v,
+        sizes,
         mb_col,
         mb_row,
-        vectors,
-        code_of(set),
-        profile.full_pixel as u8,
+        mvs_of_bytes(vectors),
+        lowers_luma(profile.full_pixel, standard != 0),
+        profile.full_pixel,
+        set,
+        count_refusal(64, vectors.len()),
         out,
     )
 }

@@ -1,11 +1,11 @@
 // What a frame's version number asks for: the tap table and the full-pixel flag; and prediction with them, which refuses the reserved
-// numbers.
+// numbers. What full-pixel lowers is as in the Rust, luma and chroma, or by the standard's rule, chroma alone.
 ghost use mathlib.Core.Path.{_≡_};
 ghost use Rattle.rfc6386.specs.Filter.{versionSet, versionProfile};
 ghost use Rattle.rfc6386.specs.Macroblock.{lent};
-ghost use Rattle.rfc6386.specs.Version.{wholeByVersion, splitByVersion};
-use prediction::predict_inter_mb;
-use prediction::predict_split_mv;
+ghost use Rattle.rfc6386.specs.Version.{inMode, wholeByVersion, splitByVersion};
+use prediction::predict_inter_mb_lowered;
+use prediction::predict_split_mv_lowered;
 use prediction::refused;
 use rfc6386::FilterSet;
 use rfc6386::Mv;
@@ -48,6 +48,16 @@ pub fn filter_set_for_version(version: u8) -> FilterSet
     profile.set
 }
 
+// Whether full-pixel lowers luma, which it does not by the standard's rule.
+pub fn lowers_luma(full_pixel: bool, standard: bool) -> bool
+    ensures { λ r. ⌜ r ≡ inMode standard «full_pixel» .luma ⌝ }
+{
+    if standard {
+        return false;
+    }
+    full_pixel
+}
+
 // Whole prediction with the table and the flag of a frame's version; 10 before every other number where that is reserved.
 pub fn predict_inter_mb_by_version(
     y: &[u8],
@@ -58,15 +68,16 @@ pub fn predict_inter_mb_by_version(
     mb_row: usize,
     luma_mv: Mv,
     version: u8,
+    standard: bool,
 ) -> Prediction
-    ensures { λ r. ⌜ r ≡ wholeByVersion version (lent (now (y .entry)) (now (u .entry)) (now (v .entry)) sizes) «mb_col» «mb_row» «luma_mv» ⌝ }
+    ensures { λ r. ⌜ r ≡ wholeByVersion version standard (lent (now (y .entry)) (now (u .entry)) (now (v .entry)) sizes) «mb_col» «mb_row» «luma_mv» ⌝ }
 {
     let profile = profile_for_version(version);
     if profile.reserved {
         return refused(10);
     }
     let set = profile.set;
-    predict_inter_mb(
+    predict_inter_mb_lowered(
         y,
         u,
         v,
@@ -74,6 +85,7 @@ pub fn predict_inter_mb_by_version(
         mb_col,
         mb_row,
         luma_mv,
+        lowers_luma(profile.full_pixel, standard),
         profile.full_pixel,
         set,
     )
@@ -89,15 +101,16 @@ pub fn predict_split_mv_by_version(
     mb_row: usize,
     split_luma_mvs: [Mv; 16],
     version: u8,
+    standard: bool,
 ) -> Prediction
-    ensures { λ r. ⌜ r ≡ splitByVersion version (lent (now (y .entry)) (now (u .entry)) (now (v .entry)) sizes) «mb_col» «mb_row» «split_luma_mvs» ⌝ }
+    ensures { λ r. ⌜ r ≡ splitByVersion version standard (lent (now (y .entry)) (now (u .entry)) (now (v .entry)) sizes) «mb_col» «mb_row» «split_luma_mvs» ⌝ }
 {
     let profile = profile_for_version(version);
     if profile.reserved {
         return refused(10);
     }
     let set = profile.set;
-    predict_split_mv(
+    predict_split_mv_lowered(
         y,
         u,
         v,
@@ -105,6 +118,7 @@ pub fn predict_split_mv_by_version(
         mb_col,
         mb_row,
         split_luma_mvs,
+        lowers_luma(profile.full_pixel, standard),
         profile.full_pixel,
         set,
     )

@@ -1,4 +1,4 @@
-// Prediction by version, with every version number: on good input, and with every other fault at once.
+// Prediction by version, with every version number: on good input, in both modes, and with every other fault at once.
 use crate::macroblocks::say;
 use crate::say::labelled;
 use crate::say::text;
@@ -7,15 +7,15 @@ use rfc6386::Sizes;
 use versions::predict_inter_mb_by_version;
 use versions::predict_split_mv_by_version;
 
-fn both(y: &[u8], uv: &[u8], sizes: Sizes, at: usize, version: u8) {
+fn both(y: &[u8], uv: &[u8], sizes: Sizes, at: usize, version: u8, standard: bool) {
     let mv = Mv { row: 0, col: 0 };
     say(
         b" whole ",
-        predict_inter_mb_by_version(y, uv, uv, sizes, at, at, mv, version),
+        predict_inter_mb_by_version(y, uv, uv, sizes, at, at, mv, version, standard),
     );
     say(
         b", split ",
-        predict_split_mv_by_version(y, uv, uv, sizes, at, at, [mv; 16], version),
+        predict_split_mv_by_version(y, uv, uv, sizes, at, at, [mv; 16], version, standard),
     );
 }
 
@@ -36,9 +36,11 @@ fn line(version: u8) {
     };
     labelled(b"version ", version as usize);
     text(b":");
-    both(&[200u8; 256], &[200u8; 64], good, 0, version);
+    both(&[200u8; 256], &[200u8; 64], good, 0, version, false);
+    text(b"; by the standard:");
+    both(&[200u8; 256], &[200u8; 64], good, 0, version, true);
     text(b"; nothing in order:");
-    both(b"", b"", bad, 1, version);
+    both(b"", b"", bad, 1, version, true);
     text(b"\n");
 }
 

@@ -36,7 +36,7 @@ fn whole(y: &[u8], u: &[u8], v: &[u8], sizes: Sizes, col: usize, row: usize) {
     );
     say(
         b", by version ",
-        predict_inter_mb_by_version(y, u, v, sizes, col, row, mv, 0),
+        predict_inter_mb_by_version(y, u, v, sizes, col, row, mv, 0, false),
     );
 }
 
@@ -52,7 +52,7 @@ fn split(y: &[u8], u: &[u8], v: &[u8], sizes: Sizes, col: usize, row: usize) {
     );
     say(
         b", by version ",
-        predict_split_mv_by_version(y, u, v, sizes, col, row, mvs, 0),
+        predict_split_mv_by_version(y, u, v, sizes, col, row, mvs, 0, false),
     );
     text(b"\n");
 }

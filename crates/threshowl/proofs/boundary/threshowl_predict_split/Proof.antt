@@ -1,38 +1,39 @@
--- `threshowl::boundary::threshowl_predict_split` meets its contract. What `finish` leaves, at what the prediction and the codes are. Assumes nothing.
+-- `threshowl::boundary::threshowl_predict_split` meets its contract. What `split_into` leaves, at what vectors, table and codes are. Assumes nothing.
+use mathlib.Core.Path.{ap₂}
+use mathlib.Core.List.{List}
 use borrow.Author.Needs.{needs}
+use Rattle.rfc6386.specs.Vector.{fullPixel}
+use Rattle.rfc6386.specs.Macroblock.{lent, split}
+use Rattle.rfc6386.specs.declared.Mv.{Mv}
+use Rattle.rfc6386.specs.declared.FilterSet.{FilterSet}
+use Rattle.threshowl.specs.Boundary.{flagOf}
 use Rattle.threshowl.proofs.Laws.{left-as}
 use Rattle.threshowl.proofs.boundary.threshowl_predict_split.Statement.{statement}
 use Rattle.threshowl.proofs.boundary.threshowl_predict_split.Tie as tie
 
-mvs-of-bytes-requires : tie.Need-mvs-of-bytes-requires
-mvs-of-bytes-requires c κs = search needs
-
-set-of-requires : tie.Need-set-of-requires
-set-of-requires c κs = search needs
-
-predict-split-mv-requires : tie.Need-predict-split-mv-requires
-predict-split-mv-requires c κs = search needs
-
-codes-refusal-requires : tie.Need-codes-refusal-requires
-codes-refusal-requires c κs = search needs
-
-finish-requires : tie.Need-finish-requires
-finish-requires c κs = search needs
-
-same-length : tie.Need-same-length
-same-length c = search needs
-
 returns : tie.Need-returns
-returns c = left-as (cc) (cc) (c .before .before .finish .ensures)
+returns c =
+    let w = c .before .before in
+    let k = w .before .before in
+    let s = k .before in
+    let m = s .before in
+    let a = m .before .before .before .before .before .before .args in
+    left-as
+    (ap₂
+    (λ (set : FilterSet) (mvs : List Mv). split set (fullPixel (flagOf (a .full-pixel)))
+    (lent (a .y .now) (a .u .now) (a .v .now) (record { «y_stride» = a .y-stride; «u_stride» = a .u-stride; «v_stride» = a .v-stride; «mb_cols» = a .mb-cols; «mb_rows» = a .mb-rows }))
+    (a .mb-col) (a .mb-row) mvs)
+    (s .set-of .ensures) (m .mvs-of-bytes .ensures))
+    (k .codes-refusal .ensures)
+    (w .split-into .ensures)
 
 pub threshowl-predict-split-spec : {M : Type 1} → statement M
 threshowl-predict-split-spec =
     tie.close
     (tie.spec
-    mvs-of-bytes-requires
-    set-of-requires
-    predict-split-mv-requires
-    codes-refusal-requires
-    finish-requires
-    same-length
+    (λ c κs. search needs)
+    (λ c κs. search needs)
+    (λ c κs. search needs)
+    (λ c κs. search needs)
+    (λ c. search needs)
     returns)

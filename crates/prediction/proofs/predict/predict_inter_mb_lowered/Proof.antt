@@ -1,4 +1,4 @@
--- `predict_inter_mb` is whole prediction: zeros by the number where it refuses, else three blocks at the macroblock's places.
+-- `predict_inter_mb_lowered` is whole prediction: zeros by the number where it refuses, else three blocks at the macroblock's places.
 use borrow.Author.Needs.{needs}
 use mathlib.Core.Path.{_∙_}
 use native.Mathlib.Omega.{arith}
@@ -7,8 +7,8 @@ use Rattle.rfc6386.specs.Block.{planeOf}
 use Rattle.rfc6386.specs.Macroblock.{whole, wholeSamples}
 use Rattle.rfc6386.specs.Laws.Refusals.{refused-is, done-is}
 use Rattle.prediction.proofs.Macroblock.{accepted, room, luma-at, u-at, v-at, three, moved}
-use Rattle.prediction.proofs.predict.predict_inter_mb.Statement.{statement}
-use Rattle.prediction.proofs.predict.predict_inter_mb.Tie as tie
+use Rattle.prediction.proofs.predict.predict_inter_mb_lowered.Statement.{statement}
+use Rattle.prediction.proofs.predict.predict_inter_mb_lowered.Tie as tie
 
 returns : tie.Need-returns
 unfolding whole
@@ -50,8 +50,8 @@ returns-2 c =
     (moved (λ p m. block 8 (a .set) (image (planeOf (a .v .now) (s .«v_stride») (p .w) (p .h))) (p .x) (p .y) m)
     (c .block-of-82 .ensures) (uv .place-of2 .ensures) (chroma .chroma-vector .ensures)))
 
-pub predict-inter-mb-spec : {M : Type 1} → statement M
-predict-inter-mb-spec =
+pub predict-inter-mb-lowered-spec : {M : Type 1} → statement M
+predict-inter-mb-lowered-spec =
     tie.close
     (tie.spec
     (λ c κs. search needs)

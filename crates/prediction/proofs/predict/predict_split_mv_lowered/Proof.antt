@@ -1,11 +1,10 @@
--- `predict_split_mv` is split prediction: zeros by the number where it refuses, else three planes of 4x4 blocks.
+-- `predict_split_mv_lowered` is split prediction: zeros by the number where it refuses, else three planes of 4x4 blocks.
 use borrow.Author.Needs.{needs}
 use mathlib.Core.Path.{_≡_, ap, ap₂, _∙_}
-use mathlib.Core.Bool.{Bool}
 use mathlib.Core.List.{List, map}
 use Prim.Native.Nat.{ℕ}
 use native.Mathlib.Omega.{arith}
-use Rattle.rfc6386.specs.Vector.{fullPixel, each, lowered, lumaVector, sent, quarterAverages, quarterVector}
+use Rattle.rfc6386.specs.Vector.{Lowering, each, lowered, lumaVector, sent, quarterAverages, quarterVector}
 use Rattle.rfc6386.specs.Picture.{image, blockBy}
 use Rattle.rfc6386.specs.Block.{planeOf}
 use Rattle.rfc6386.specs.Macroblock.{subblock, quarter, split, splitSamples}
@@ -15,17 +14,17 @@ use Rattle.rfc6386.specs.declared.Mv.{Mv}
 use Rattle.rfc6386.specs.declared.FilterSet.{FilterSet}
 use Rattle.prediction.specs.declared.place.Place.{Place}
 use Rattle.prediction.proofs.Macroblock.{accepted, room, luma-starts, u-starts, v-starts, three, quarter-of}
-use Rattle.prediction.proofs.predict.predict_split_mv.Statement.{statement}
-use Rattle.prediction.proofs.predict.predict_split_mv.Tie as tie
+use Rattle.prediction.proofs.predict.predict_split_mv_lowered.Statement.{statement}
+use Rattle.prediction.proofs.predict.predict_split_mv_lowered.Tie as tie
 
 -- a chroma plane, from what `split_chroma` gives at place p by the vectors ks of the quarters
-quarters : (set : FilterSet) (b : Bool) (bytes : List ℕ) (stride : ℕ) (vs : List Mv) {l : List ℕ} {p p′ : Place} {ks : List Mv} → p ≡ p′ → ks ≡ map (each (lowered b)) (quarterAverages vs)
+quarters : (set : FilterSet) (low : Lowering) (bytes : List ℕ) (stride : ℕ) (vs : List Mv) {l : List ℕ} {p p′ : Place} {ks : List Mv} → p ≡ p′ → ks ≡ map (each (lowered (low .chroma))) (quarterAverages vs)
     → l ≡ blockBy 8 set (image (planeOf bytes stride (p .w) (p .h))) (p .x) (p .y) (λ r c. sent ks (quarter r c))
-    → l ≡ blockBy 8 set (image (planeOf bytes stride (p′ .w) (p′ .h))) (p′ .x) (p′ .y) (λ r c. quarterVector (fullPixel b) vs (quarter r c))
-quarters set b bytes stride vs {l} {p} {p′} {ks} e k h =
+    → l ≡ blockBy 8 set (image (planeOf bytes stride (p′ .w) (p′ .h))) (p′ .x) (p′ .y) (λ r c. quarterVector low vs (quarter r c))
+quarters set low bytes stride vs {l} {p} {p′} {ks} e k h =
     h
     ∙ ap₂ (λ (q : Place) (vs : List Mv). blockBy 8 set (image (planeOf bytes stride (q .w) (q .h))) (q .x) (q .y) (λ r c. sent vs (quarter r c))) e k
-    ∙ blockBy-ext 8 set (image (planeOf bytes stride (p′ .w) (p′ .h))) (p′ .x) (p′ .y) _ _ (λ r c hr hc. quarter-of b vs (quarter r c) (omega arith))
+    ∙ blockBy-ext 8 set (image (planeOf bytes stride (p′ .w) (p′ .h))) (p′ .x) (p′ .y) _ _ (λ r c hr hc. quarter-of low vs (quarter r c) (omega arith))
 
 returns : tie.Need-returns
 unfolding split
@@ -57,16 +56,17 @@ returns-2 c =
     let e = q .before in
     let a = e .before .before .before .before .before .args in
     let s = a .sizes in
+    let low : Lowering = record { luma = a .lower-luma; chroma = a .lower-chroma } in
     done-is (e .before .refusal .ensures) (e .if1 .left)
     (three
     (at-y .split-luma .ensures
-    ∙ ap (λ (p : Place). blockBy 16 (a .set) (image (planeOf (a .y .now) (s .«y_stride») (p .w) (p .h))) (p .x) (p .y) (λ r c. lumaVector (fullPixel (a .full-pixel)) (sent (a .split-luma-mvs) (subblock r c))))
+    ∙ ap (λ (p : Place). blockBy 16 (a .set) (image (planeOf (a .y .now) (s .«y_stride») (p .w) (p .h))) (p .x) (p .y) (λ r c. lumaVector low (sent (a .split-luma-mvs) (subblock r c))))
     (y .place-of .ensures))
-    (quarters (a .set) (a .full-pixel) (a .u .now) (s .«u_stride») (a .split-luma-mvs) (uv .place-of2 .ensures) (q .quarter-vectors .ensures) (at-u .split-chroma .ensures))
-    (quarters (a .set) (a .full-pixel) (a .v .now) (s .«v_stride») (a .split-luma-mvs) (uv .place-of2 .ensures) (q .quarter-vectors .ensures) (c .split-chroma2 .ensures)))
+    (quarters (a .set) low (a .u .now) (s .«u_stride») (a .split-luma-mvs) (uv .place-of2 .ensures) (q .quarter-vectors .ensures) (at-u .split-chroma .ensures))
+    (quarters (a .set) low (a .v .now) (s .«v_stride») (a .split-luma-mvs) (uv .place-of2 .ensures) (q .quarter-vectors .ensures) (c .split-chroma2 .ensures)))
 
-pub predict-split-mv-spec : {M : Type 1} → statement M
-predict-split-mv-spec =
+pub predict-split-mv-lowered-spec : {M : Type 1} → statement M
+predict-split-mv-lowered-spec =
     tie.close
     (tie.spec
     (λ c κs. search needs)
