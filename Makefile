@@ -12,6 +12,8 @@
 #   make freestanding       link a host that has no C library, and run it
 #   make ivf-evidence       mending at scale, on made and on real recordings
 #   make ivf-bench          its time beside that of copying
+#   make y4m-evidence       headers and frames at scale, and real files
+#   make y4m-bench          a frame's time beside that of copying
 #   make oracle RUST=SRC    compare with the original Rust in folder SRC
 #   make rfc-version3 RFC=FILE
 #                           run the decoder that RFC 6386 prints, given its text,
@@ -60,7 +62,7 @@ EXPECTED = examples/lamp_panel.expected
 FREESTANDING = tests/freestanding/host.c
 
 .PHONY: demo demo-check check mirror versions oracle bench install install-check clean tools rust-named FORCE
-.PHONY: programs tools-check freestanding ivf-evidence ivf-bench rfc-version3 rfc-named
+.PHONY: programs tools-check freestanding ivf-evidence ivf-bench y4m-evidence y4m-bench rfc-version3 rfc-named
 
 demo: target/demo/lamp_panel
 	$(EMULATOR) target/demo/lamp_panel target/demo
@@ -82,7 +84,7 @@ versions: target/versions/versions
 	$(EMULATOR) target/versions/versions $(SEED)
 
 # A program NAME is programs/NAME.c, its page programs/NAME.1, its trial programs/NAME.test.
-PROGRAMS = mend
+PROGRAMS = mend y4m
 BUILT = $(PROGRAMS:%=target/programs/%)
 
 programs: $(BUILT)
@@ -105,6 +107,14 @@ ivf-bench: $(ARCHIVE) | tools
 	mkdir -p target/bench
 	$(AS_C) -Iinclude bench/ivf.c "$(ARCHIVE)" $(LDLIBS) -o target/bench/ivf
 	$(EMULATOR) target/bench/ivf
+
+y4m-evidence: $(ARCHIVE) target/programs/y4m
+	CC="$(AS_C)" EMULATOR="$(EMULATOR)" tests/y4m/run "$(ARCHIVE)" target/programs/y4m
+
+y4m-bench: $(ARCHIVE) | tools
+	mkdir -p target/bench
+	$(AS_C) -Iinclude bench/y4m.c "$(ARCHIVE)" $(LDLIBS) -o target/bench/y4m
+	$(EMULATOR) target/bench/y4m
 
 oracle: rust-named $(ARCHIVE) $(SHIMS)
 	tests/oracle/run "$(RUST)" "$(ARCHIVE)" $(SHIMS)
@@ -156,9 +166,9 @@ target/mirror/mirror target/versions/versions: target/%: tests/%.c include/thres
 	mkdir -p $(@D)
 	$(AS_C) -Iinclude $< "$(ARCHIVE)" $(LDLIBS) -o $@
 
-target/programs/%: programs/%.c include/threshowl.h $(ARCHIVE) | tools
+target/programs/%: programs/%.c programs/files.c programs/files.h include/threshowl.h $(ARCHIVE) | tools
 	mkdir -p target/programs
-	$(AS_C) -Iinclude $< "$(ARCHIVE)" $(LDLIBS) -o $@
+	$(AS_C) -Iinclude $< programs/files.c "$(ARCHIVE)" $(LDLIBS) -o $@
 
 tools:
 	tools/x86-64-tools

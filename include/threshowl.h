@@ -241,6 +241,93 @@ uint32_t threshowl_ivf_mend(
     uint8_t *out, size_t out_len,
     uint64_t *old_count, uint64_t *new_count, uint64_t *dropped);
 
+/*
+ * Pictures
+ *
+ * A YUV4MPEG2 file is a header line and frames.  Three functions read its
+ * header, read a frame, and write one.  Each reports through its last pointers,
+ * which are always set; where a call is refused they are set to 0, and not one
+ * byte of out is changed.
+ *
+ * The header is the word YUV4MPEG2 and parameters, with a single space in front
+ * of each, up to a newline, which is one of the first 256 bytes.  The first
+ * letter of a parameter is its name.  There is one W and one H, each a number
+ * from 1 to 16384 in at most five digits, zeros in front allowed.  There may be
+ * one C, which is C420jpeg.  Other names are passed over; a parameter without any
+ * byte is a fault.  With 0 *width and *height are the sizes, and *taken the bytes
+ * of the header.
+ *
+ *   12 (THRESHOWL_BAD_HEADER)   the header is not like that.
+ */
+enum {
+    THRESHOWL_BAD_HEADER = 12,
+    THRESHOWL_NO_MARK = 13,
+    THRESHOWL_SHORT_FRAME = 14
+};
+
+#define THRESHOWL_Y4M_HEADER_LIMIT 256
+#define THRESHOWL_Y4M_SIZE_LIMIT 16384
+
+uint32_t threshowl_y4m_header(
+    const uint8_t *file, size_t file_len,
+    uint64_t *width, uint64_t *height, uint64_t *taken);
+
+/*
+ * In a file a frame is its mark, the word FRAME and a newline, and then width by
+ * height samples of Y and half as many columns and rows, rounded up, of U and of
+ * V.  In memory the three planes follow one another too, but each goes on to the
+ * end of the last macroblock, with copies of its last column and row: so the
+ * functions above take it, with the width rounded up to a multiple of 16 as the
+ * stride of Y, and half of that for U and V.
+ *
+ * These are the bytes of both, for a width and a height in 1..16384.
+ */
+#define THRESHOWL_Y4M_HALF(n) (((size_t)(n) + 1) / 2)
+#define THRESHOWL_Y4M_PADDED(n) (((size_t)(n) + 15) / 16 * 16)
+#define THRESHOWL_Y4M_FRAME_LEN(width, height) \
+    (6 + (size_t)(width) * (size_t)(height) \
+     + 2 * THRESHOWL_Y4M_HALF(width) * THRESHOWL_Y4M_HALF(height))
+#define THRESHOWL_Y4M_PADDED_LEN(width, height) \
+    (THRESHOWL_Y4M_PADDED(width) * THRESHOWL_Y4M_PADDED(height) / 2 * 3)
+
+/*
+ * Reads the frame that file begins with into out, and reports the bytes that it
+ * took.  Bytes of file after the frame alter nothing, and bytes of out after it
+ * are as they were.  A file_len of 0 is the end of the film: the call is done,
+ * *taken is 0, and out is as it was, whatever its length.
+ *
+ *   1 (THRESHOWL_BAD_SIZE)      width or height is not in 1..16384.
+ *   13 (THRESHOWL_NO_MARK)      the first bytes are not the mark.
+ *   14 (THRESHOWL_SHORT_FRAME)  the frame is cut: some of its samples are missing.
+ *   7 (THRESHOWL_BAD_OUT)       out has no room for the frame in memory.
+ *
+ * The tests are made in this order, and the end is looked for after the first.
+ */
+uint32_t threshowl_y4m_read_frame(
+    const uint8_t *file, size_t file_len,
+    size_t width, size_t height,
+    uint8_t *out, size_t out_len,
+    uint64_t *taken);
+
+/*
+ * Writes a frame in memory to out as a file has it, with its mark and without
+ * its padding, and reports the bytes that it wrote.  What was read comes out byte
+ * for byte.
+ *
+ *   1 (THRESHOWL_BAD_SIZE)      width or height is not in 1..16384.
+ *   14 (THRESHOWL_SHORT_FRAME)  frame has fewer bytes than the frame in memory.
+ *   7 (THRESHOWL_BAD_OUT)       out has no room for the frame in a file.
+ *
+ * The tests are made in this order.  No pointer of the three functions is NULL.
+ * What is written, out and the reported numbers, overlaps nothing else that is
+ * handed over.
+ */
+uint32_t threshowl_y4m_write_frame(
+    const uint8_t *frame, size_t frame_len,
+    size_t width, size_t height,
+    uint8_t *out, size_t out_len,
+    uint64_t *written);
+
 #ifdef __cplusplus
 }
 #endif

@@ -142,9 +142,32 @@ static int mend(void)
            && same(mended, wanted, sizeof wanted);
 }
 
+/* ---- Pictures: a header, and a frame of 3 by 1 samples, read and written ---- */
+
+static const uint8_t film[] = "YUV4MPEG2 W3 H1\nFRAME\nabcUuVv";
+
+enum { FILM_HEADER = 16, FILM_FRAME = 13, FILM_LEN = FILM_HEADER + FILM_FRAME };
+
+static int header(void)
+{
+    uint64_t width = OLD, height = OLD, taken = OLD;
+    return threshowl_y4m_header(film, FILM_LEN, &width, &height, &taken) == THRESHOWL_DONE
+           && width == 3 && height == 1 && taken == FILM_HEADER;
+}
+
+static int frame(void)
+{
+    static uint8_t padded[THRESHOWL_Y4M_PADDED_LEN(3, 1)], back[FILM_FRAME];
+    uint64_t taken = OLD, written = OLD;
+    return threshowl_y4m_read_frame(film + FILM_HEADER, FILM_FRAME, 3, 1, padded, sizeof padded, &taken) == THRESHOWL_DONE
+           && taken == FILM_FRAME && padded[2] == 'c' && padded[255] == 'c' && padded[319] == 'u' && padded[383] == 'v'
+           && threshowl_y4m_write_frame(padded, sizeof padded, 3, 1, back, sizeof back, &written) == THRESHOWL_DONE
+           && written == FILM_FRAME && same(back, film + FILM_HEADER, FILM_FRAME);
+}
+
 /* ---- Where the program begins and ends (Linux, x86-64) ---- */
 
-static int (*const calls[])(void) = {whole, split, merging, whole_by_version, split_by_version, mend};
+static int (*const calls[])(void) = {whole, split, merging, whole_by_version, split_by_version, mend, header, frame};
 
 int run(void);
 

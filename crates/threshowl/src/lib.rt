@@ -1,7 +1,8 @@
-// The library that a C program links: prediction, and the mending of recordings, over numbers and bytes.
+// The library that a C program links: prediction, the mending of recordings, and YUV4MPEG2 files, over numbers and bytes.
 pub mod boundary;
 pub mod by_version;
 mod output;
+pub mod pictures;
 pub mod recordings;
 mod refusals;
 mod vectors;

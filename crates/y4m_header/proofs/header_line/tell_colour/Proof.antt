@@ -1,0 +1,26 @@
+-- `y4m_header::header_line::tell_colour` meets its contract. Assumes nothing.
+use mathlib.Core.Path.{sym, _∙_}
+use borrow.Author.Needs.{needs}
+use borrow.Author.Tests.{not-true, not-false}
+use Rattle.y4m_header.proofs.Laws.{colour-twice, colour-unknown, colour-told}
+use Rattle.y4m_header.proofs.header_line.tell_colour.Statement.{statement}
+use Rattle.y4m_header.proofs.header_line.tell_colour.Tie as tie
+
+break-rule-requires : tie.Need-break-rule-requires
+break-rule-requires c κs = search needs
+
+returns : tie.Need-returns
+returns c = c .break-rule .ensures ∙ sym (colour-twice _ _ (c .before .if1 .taken))
+
+break-rule-requires-2 : tie.Need-break-rule-requires-2
+break-rule-requires-2 c κs = search needs
+
+returns-2 : tie.Need-returns-2
+returns-2 c = c .break-rule2 .ensures ∙ sym (colour-unknown _ _ (c .before .before .if1 .left) (not-true (c .before .before .before .args .known) (c .before .if2 .taken)))
+
+returns-3 : tie.Need-returns-3
+returns-3 c = sym (colour-told _ _ (c .before .if1 .left) (not-false (c .before .before .args .known) (c .if2 .left)))
+
+pub tell-colour-spec : {M : Type 1} → statement M
+tell-colour-spec =
+    tie.close (tie.spec break-rule-requires returns break-rule-requires-2 returns-2 returns-3)

@@ -1,0 +1,20 @@
+// Words of bytes.
+ghost use mathlib.Core.Path.{_≡_};
+ghost use Rattle.y4m_header.specs.Words.{same};
+
+// Whether two are equal.
+pub fn same(a: &[u8], b: &[u8]) -> bool
+    ensures { λ r. ⌜ r ≡ same (now (a .entry)) (now (b .entry)) ⌝ }
+{
+    if a.len() != b.len() {
+        return false;
+    }
+    let mut i: usize = 0;
+    while i < a.len() {
+        if a[i] != b[i] {
+            return false;
+        }
+        i += 1;
+    }
+    true
+}
