@@ -78,7 +78,7 @@ fn mixed() -> Vectors {
 pub const SPLIT_EQUAL: &str = "split, equal vectors";
 pub const MERGING_EQUAL: &str = "merging, equal vectors";
 
-fn inputs() -> [Input; 9] {
+fn inputs() -> [Input; 11] {
     let equal = Vectors::equal(5, -3);
     [
         Input::whole("whole, two dimensions", 5, -3, 0.33),
@@ -88,6 +88,14 @@ fn inputs() -> [Input; 9] {
         Input {
             filter: 1,
             ..Input::whole("whole, bilinear", 5, -3, 0.25)
+        },
+        Input {
+            filter: 1,
+            ..Input::whole("whole, bilinear across only", 8, -3, 0.25)
+        },
+        Input {
+            filter: 1,
+            ..Input::whole("whole, bilinear down only", 5, -8, 0.25)
         },
         Input {
             place: Where::LeftEdge,

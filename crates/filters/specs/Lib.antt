@@ -1,5 +1,5 @@
 -- What private functions of this crate and of `prediction` promise each other, and laws of it.
 pub mod Taps
 pub mod Rows
-pub mod Passes
+pub mod Window
 pub mod Laws

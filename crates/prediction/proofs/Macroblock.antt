@@ -14,6 +14,7 @@ use Rattle.rfc6386.specs.Laws.Refusals.{Sized, Accepts, accepts, luma-start, u-
 use Rattle.rfc6386.specs.declared.Mv.{Mv}
 use Rattle.rfc6386.specs.declared.Sizes.{Sizes}
 use Rattle.rfc6386.specs.declared.ReconstructedMb.{ReconstructedMb}
+use Rattle.prediction.specs.Places.{planeAt, Accepted, Alike}
 use Rattle.prediction.specs.Tiles.{Starts}
 use Rattle.prediction.specs.declared.place.Place.{Place}
 
@@ -22,8 +23,8 @@ pub accepted : {ref : Reference} {col row n : ℕ} → n ≡ refusal ref col row
 accepted {ref} {col} {row} e z = accepts ref col row (sym e ∙ z)
 
 -- the macroblock's place in a plane with n samples to its side
-abbrev pub at : Sizes → ℕ → ℕ → ℕ → Place
-at s col row n = record { w = s .«mb_cols» * n; h = s .«mb_rows» * n; x = col * n; y = row * n }
+abbrev pub at : ℕ → Sizes → ℕ → ℕ → ℕ → Place
+at stride s col row n = record { stride = stride; w = s .«mb_cols» * n; h = s .«mb_rows» * n; x = col * n; y = row * n }
 
 module _ (y u v : List ℕ) (s : Sizes) (col row : ℕ) (A : Accepts (lent y u v s) col row) where
   pub room : (side : ℕ) → side ≤ 16 → Sized (s .«mb_cols») (s .«mb_rows») × ((col ≤ 1024) × (row ≤ 1024) × (side ≤ 16))
@@ -33,13 +34,22 @@ module _ (y u v : List ℕ) (s : Sizes) (col row : ℕ) (A : Accepts (lent y u v
   )
 
 -- what holds at a macroblock's place holds at p, which is that place
-module _ (s : Sizes) (col row n : ℕ) {p : Place} (e : p ≡ at s col row n) (bytes : List ℕ) (stride : ℕ) where
-  refusal-at : planeRefusal (planeOf bytes stride (s .«mb_cols» * n) (s .«mb_rows» * n)) (col * n) (row * n) ≡ 0
-      → planeRefusal (planeOf bytes stride (p .w) (p .h)) (p .x) (p .y) ≡ 0
-  refusal-at = subst (λ (q : Place). planeRefusal (planeOf bytes stride (q .w) (q .h)) (q .x) (q .y) ≡ 0) (sym e)
+module _ (stride : ℕ) (s : Sizes) (col row n : ℕ) {p : Place} (e : p ≡ at stride s col row n) (bytes : List ℕ) where
+  refusal-at : planeRefusal (planeOf bytes stride (s .«mb_cols» * n) (s .«mb_rows» * n)) (col * n) (row * n) ≡ 0 → Accepted bytes p
+  refusal-at = subst (Accepted bytes) (sym e)
 
-  starts-at : Starts (planeOf bytes stride (s .«mb_cols» * n) (s .«mb_rows» * n)) (col * n) (row * n) n → Starts (planeOf bytes stride (p .w) (p .h)) (p .x) (p .y) n
-  starts-at = subst (λ (q : Place). Starts (planeOf bytes stride (q .w) (q .h)) (q .x) (q .y) n) (sym e)
+  starts-at : Starts (planeOf bytes stride (s .«mb_cols» * n) (s .«mb_rows» * n)) (col * n) (row * n) n → Starts (planeAt bytes p) (p .x) (p .y) n
+  starts-at = subst (λ (q : Place). Starts (planeAt bytes q) (q .x) (q .y) n) (sym e)
+
+-- U's place and V's differ in the stride alone
+pub alike : (s : Sizes) (col row n : ℕ) {k m : ℕ} {p q : Place} → p ≡ at k s col row n → q ≡ at m s col row n → Alike p q
+alike s col row n e f =
+    record {
+      width = ap (λ (p : Place). p .w) e ∙ sym (ap (λ (p : Place). p .w) f);
+      height = ap (λ (p : Place). p .h) e ∙ sym (ap (λ (p : Place). p .h) f);
+      column = ap (λ (p : Place). p .x) e ∙ sym (ap (λ (p : Place). p .x) f);
+      row = ap (λ (p : Place). p .y) e ∙ sym (ap (λ (p : Place). p .y) f);
+    }
 
 -- so every call at the place of a macroblock is accepted
 module _ (y u v : List ℕ) (s : Sizes) (col row : ℕ) (A : Accepts (lent y u v s) col row) where
@@ -49,25 +59,26 @@ module _ (y u v : List ℕ) (s : Sizes) (col row : ℕ) (A : Accepts (lent y u v
       let r : row ≤ 1024 = omega arith in
       record { accepted = accepted; x-small = omega (arith, mul-le-mul c h); y-small = omega (arith, mul-le-mul r h) }
 
-  module _ {p : Place} (e : p ≡ at s col row 16) where
-    pub luma-at : planeRefusal (planeOf y (s .«y_stride») (p .w) (p .h)) (p .x) (p .y) ≡ 0
-    luma-at = refusal-at s col row 16 e y (s .«y_stride») (luma-start (lent y u v s) col row A)
+  module _ {p : Place} (e : p ≡ at (s .«y_stride») s col row 16) where
+    pub luma-at : Accepted y p
+    luma-at = refusal-at (s .«y_stride») s col row 16 e y (luma-start (lent y u v s) col row A)
 
-    pub luma-starts : Starts (planeOf y (s .«y_stride») (p .w) (p .h)) (p .x) (p .y) 16
-    luma-starts = starts-at s col row 16 e y (s .«y_stride») (place-starts 16 _ (omega arith) (luma-accepted (lent y u v s) col row A))
+    pub luma-starts : Starts (planeAt y p) (p .x) (p .y) 16
+    luma-starts = starts-at (s .«y_stride») s col row 16 e y (place-starts 16 _ (omega arith) (luma-accepted (lent y u v s) col row A))
 
-  module _ {p : Place} (e : p ≡ at s col row 8) where
-    pub u-at : planeRefusal (planeOf u (s .«u_stride») (p .w) (p .h)) (p .x) (p .y) ≡ 0
-    u-at = refusal-at s col row 8 e u (s .«u_stride») (u-start (lent y u v s) col row A)
+  module _ {p : Place} (e : p ≡ at (s .«u_stride») s col row 8) where
+    pub u-at : Accepted u p
+    u-at = refusal-at (s .«u_stride») s col row 8 e u (u-start (lent y u v s) col row A)
 
-    pub v-at : planeRefusal (planeOf v (s .«v_stride») (p .w) (p .h)) (p .x) (p .y) ≡ 0
-    v-at = refusal-at s col row 8 e v (s .«v_stride») (v-start (lent y u v s) col row A)
+    pub u-starts : Starts (planeAt u p) (p .x) (p .y) 8
+    u-starts = starts-at (s .«u_stride») s col row 8 e u (place-starts 8 _ (omega arith) (u-accepted (lent y u v s) col row A))
 
-    pub u-starts : Starts (planeOf u (s .«u_stride») (p .w) (p .h)) (p .x) (p .y) 8
-    u-starts = starts-at s col row 8 e u (s .«u_stride») (place-starts 8 _ (omega arith) (u-accepted (lent y u v s) col row A))
+  module _ {p : Place} (e : p ≡ at (s .«v_stride») s col row 8) where
+    pub v-at : Accepted v p
+    v-at = refusal-at (s .«v_stride») s col row 8 e v (v-start (lent y u v s) col row A)
 
-    pub v-starts : Starts (planeOf v (s .«v_stride») (p .w) (p .h)) (p .x) (p .y) 8
-    v-starts = starts-at s col row 8 e v (s .«v_stride») (place-starts 8 _ (omega arith) (v-accepted (lent y u v s) col row A))
+    pub v-starts : Starts (planeAt v p) (p .x) (p .y) 8
+    v-starts = starts-at (s .«v_stride») s col row 8 e v (place-starts 8 _ (omega arith) (v-accepted (lent y u v s) col row A))
 
 -- three planes' samples
 pub three : {a a′ b b′ c c′ : List ℕ} → a ≡ a′ → b ≡ b′ → c ≡ c′ → _≡_ {A = ReconstructedMb} (record { y = a; u = b; v = c }) (record { y = a′; u = b′; v = c′ })

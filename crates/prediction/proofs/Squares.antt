@@ -13,9 +13,11 @@ use Rattle.signed.specs.Held.{Within, Held}
 use Rattle.rfc6386.specs.Number.{clamped}
 use Rattle.rfc6386.specs.Raster.{raster, written}
 use Rattle.rfc6386.specs.Picture.{Plane, Image, image, square}
+use Rattle.rfc6386.specs.Laws.Refusals.{Fits}
 use Rattle.rfc6386.specs.Laws.Raster.{row-fits, raster-ext, within-true, getD-written}
 use Rattle.filters.specs.Rows.{laid, Room}
-use Rattle.prediction.specs.Places.{Inside, Source, clampedRow, clampedRect}
+use Rattle.filters.specs.Window.{windowList}
+use Rattle.prediction.specs.Places.{Inside, Lies, Source, clampedRow, clampedRect}
 use Rattle.filters.specs.Laws.Copying.{Writing, writing-more}
 
 -- a signed argument as its callee reads it: its range
@@ -31,8 +33,8 @@ module _ {w : Width} {x y : ℤ} {u d u′ d′ : ℕ} (hx : Held w x u d) (hy :
   square-as n img e = e ∙ ap₂ (square n img) (hx .is) (hy .is)
 
 -- a row of the plane, whole
-pub in-plane : {p : Plane} {x₀ y₀ : ℤ} → Source p x₀ y₀ → (y : ℕ) → y < p .height → y * p .stride + p .width ≤ length (p .bytes)
-in-plane {p} S y h = let l : y ≤ p .height - 1 = omega arith in omega (arith, S .fits .bytes, mul-le-mul-right (p .stride) l)
+pub in-plane : {p : Plane} → Fits p → (y : ℕ) → y < p .height → y * p .stride + p .width ≤ length (p .bytes)
+in-plane {p} F y h = let l : y ≤ p .height - 1 = omega arith in omega (arith, F .bytes, mul-le-mul-right (p .stride) l)
 
 -- ---- the clamped rectangle, and its corner
 -- one more row of it
@@ -60,17 +62,12 @@ corner-is p x y d {n} {cols} {rows} h k room e =
     (λ r c hr hc. ap (λ (l : List ℕ). getD l (0 + r * cols + c) 0) e ∙ written-at d cols rows (λ r c. image p (x +ℤ pos c) (y +ℤ pos r)) r c (omega arith) (omega arith) room)
 
 -- ---- the plain square
--- the n places from z on are i, i + 1, .., all inside
-pub record Starts (z : ℤ) (n size i : ℕ) : Type 0 where
-  pub is : z ≡ pos i
-  pub room : i + n ≤ size
-
-pub starts : {w : Width} {z : ℤ} {u d n size : ℕ} (h : Held w z u d) → Inside (h .val) n size → Starts z n size (natAbs (h .val))
+pub starts : {w : Width} {z : ℤ} {u d n size : ℕ} (h : Held w z u d) → Inside (h .val) n size → Lies z n size (natAbs (h .val))
 starts h I = omega (int, h .is, natAbs-is (h .val), I .first, I .last)
 
-module _ {p : Plane} {x y : ℤ} {n i j : ℕ} (S : Source p x y) (X : Starts x n (p .width) i) (Y : Starts y n (p .height) j) where
+module _ {p : Plane} {x y : ℤ} {n i j : ℕ} (F : Fits p) (X : Lies x n (p .width) i) (Y : Lies y n (p .height) j) where
   pub plain-held : (r : ℕ) → r < n → j * p .stride + i + r * p .stride + n ≤ length (p .bytes)
-  plain-held r h = omega (arith, in-plane S (j + r) (omega (arith, Y .room)), X .room)
+  plain-held r h = omega (arith, in-plane F (j + r) (omega (arith, Y .room)), X .room)
 
   pub plain-is : raster n n (λ r c. getD (p .bytes) (j * p .stride + i + r * p .stride + c) 0) ≡ square n (image p) x y
   unfolding square image
@@ -80,6 +77,11 @@ module _ {p : Plane} {x y : ℤ} {n i j : ℕ} (S : Source p x y) (X : Starts x 
       let ex : clamped (x +ℤ pos c) (p .width) ≡ i + c = ap (λ (z : ℤ). clamped (z +ℤ pos c) (p .width)) (X .is) ∙ omega (arith, X .room) in
       let ey : clamped (y +ℤ pos r) (p .height) ≡ j + r = ap (λ (z : ℤ). clamped (z +ℤ pos r) (p .height)) (Y .is) ∙ omega (arith, Y .room) in
       ap (λ (k : ℕ). getD (p .bytes) k 0) (omega (arith, ex, ap (λ (k : ℕ). k * p .stride) ey)))
+
+  -- THEOREM (near). Where all of the square lies inside, it is the window there, as a list.
+  pub near-is : windowList n (p .bytes) (j * p .stride + i) (p .stride) ≡ square n (image p) x y
+  unfolding windowList
+  near-is = plain-is
 
 -- ---- a square of n by n, whole
 pub square-room : {count n : ℕ} → 1 ≤ n → count ≡ n * n → Room count n 0 0 n n

@@ -1,86 +1,107 @@
-// Blocks of 4, 8 and 16 samples a side, fetched and filtered.
+// Blocks of 4 and 16 samples a side, fetched and filtered.
 ghost use mathlib.Core.Path.{_≡_};
-ghost use Prim.Native.Nat.{_+_};
 ghost use lib.ListN.{length};
+ghost use Rattle.rfc6386.specs.Vector as vector;
 ghost use Rattle.rfc6386.specs.Picture as picture;
-ghost use Rattle.rfc6386.specs.Refusal.{planeRefusal, noRoom};
 ghost use Rattle.rfc6386.specs.Block.{planeOf, block4, Into};
-use crate::fetch::plane_refusal;
+ghost use Rattle.filters.specs.Rows.{Room};
+ghost use Rattle.filters.specs.Window.{put};
+ghost use Rattle.prediction.specs.Places.{planeAt, Accepted};
+use crate::near::find;
+use crate::place::Place;
+use crate::refusal::no_room;
+use crate::refusal::plane_refusal;
 use crate::square::halo_of_4;
-use crate::square::halo_of_8;
 use crate::square::halo_of_16;
 use crate::square::pixels_of_4;
-use crate::square::pixels_of_8;
 use crate::square::pixels_of_16;
-use filters::copy_rect;
-use filters::filter4;
-use filters::filter8;
-use filters::filter16;
+use filters::rect::Spot;
+use filters::rect::Window;
+use filters::rect::copy_rect;
+use filters::tile::filter_tile;
+use filters::way::Way;
+use filters::wide::filter_wide;
 use motion_vectors::fraction;
 use motion_vectors::whole_pixel_fraction_is_zero;
 use rfc6386::Block4;
 use rfc6386::FilterSet;
 use rfc6386::Mv;
 
-// ---- the block itself, where the call is not refused: whole pixels where the vector has no fraction, else the halo filtered
-pub fn block_of_4(
-    plane: &[u8],
-    stride: usize,
-    w: usize,
-    h: usize,
-    x: usize,
-    y: usize,
-    mv: Mv,
-    set: FilterSet,
-) -> [u8; 16]
-    requires { ⌜ planeRefusal (planeOf (now plane) stride w h) x y ≡ 0 ⌝ }
-    ensures { λ r. ⌜ r ≡ picture.block 4 set (picture.image (planeOf (now (plane .entry)) stride w h)) x y mv ⌝ }
+// ---- blocks where the call is not refused: whole pixels where the vector has no fraction, else filtered, out of the plane where the halo
+// lies inside it, else out of a clamped copy
+pub fn way_of(mv: Mv, set: FilterSet) -> Way
+    ensures { λ r. ⌜ r ≡ record { set = set; mx = vector.fraction (mv .col); my = vector.fraction (mv .row) } ⌝ }
 {
-    if whole_pixel_fraction_is_zero(mv) {
-        return pixels_of_4(plane, stride, w, h, x, y, mv);
+    Way {
+        set,
+        mx: fraction(mv.col),
+        my: fraction(mv.row),
     }
-    let halo = halo_of_4(plane, stride, w, h, x, y, mv);
-    filter4(&halo, fraction(mv.col), fraction(mv.row), set)
 }
 
-pub fn block_of_8(
-    plane: &[u8],
-    stride: usize,
-    w: usize,
-    h: usize,
-    x: usize,
-    y: usize,
-    mv: Mv,
-    set: FilterSet,
-) -> [u8; 64]
-    requires { ⌜ planeRefusal (planeOf (now plane) stride w h) x y ≡ 0 ⌝ }
-    ensures { λ r. ⌜ r ≡ picture.block 8 set (picture.image (planeOf (now (plane .entry)) stride w h)) x y mv ⌝ }
+// A block of 4 samples a side, put into a rectangle of out.
+pub fn tile_into(plane: &[u8], at: Place, mv: Mv, set: FilterSet, out: &mut [u8], spot: Spot)
+    requires { ⌜ Accepted (now plane) at ⌝ }
+    requires { ⌜ Room (length (now out)) (spot .stride) (spot .x) (spot .y) 4 4 ⌝ }
+    ensures { λ _. ⌜ now (out .exit) ≡ put (now (out .entry)) spot 4 (picture.block 4 set (picture.image (planeAt (now (plane .entry)) at)) (at .x) (at .y) mv) ⌝ }
 {
     if whole_pixel_fraction_is_zero(mv) {
-        return pixels_of_8(plane, stride, w, h, x, y, mv);
+        let block = pixels_of_4(plane, at.stride, at.w, at.h, at.x, at.y, mv);
+        copy_rect(out, spot, 4, 4, &block, Window { at: 0, pitch: 4 });
+        return;
     }
-    let halo = halo_of_8(plane, stride, w, h, x, y, mv);
-    filter8(&halo, fraction(mv.col), fraction(mv.row), set)
+    let way = way_of(mv, set);
+    let found = find(at, mv, 9);
+    if found.near {
+        let from = Window {
+            at: found.y * at.stride + found.x,
+            pitch: at.stride,
+        };
+        filter_tile(plane, from, way, out, spot);
+        return;
+    }
+    let halo = halo_of_4(plane, at.stride, at.w, at.h, at.x, at.y, mv);
+    filter_tile(&halo, Window { at: 0, pitch: 9 }, way, out, spot);
 }
 
-pub fn block_of_16(
-    plane: &[u8],
-    stride: usize,
-    w: usize,
-    h: usize,
-    x: usize,
-    y: usize,
-    mv: Mv,
-    set: FilterSet,
-) -> [u8; 256]
-    requires { ⌜ planeRefusal (planeOf (now plane) stride w h) x y ≡ 0 ⌝ }
-    ensures { λ r. ⌜ r ≡ picture.block 16 set (picture.image (planeOf (now (plane .entry)) stride w h)) x y mv ⌝ }
+pub fn block_of_4(plane: &[u8], at: Place, mv: Mv, set: FilterSet) -> [u8; 16]
+    requires { ⌜ Accepted (now plane) at ⌝ }
+    ensures { λ r. ⌜ r ≡ picture.block 4 set (picture.image (planeAt (now (plane .entry)) at)) (at .x) (at .y) mv ⌝ }
+{
+    let mut out = [0u8; 16];
+    tile_into(
+        plane,
+        at,
+        mv,
+        set,
+        &mut out,
+        Spot {
+            stride: 4,
+            x: 0,
+            y: 0,
+        },
+    );
+    out
+}
+
+pub fn block_of_16(plane: &[u8], at: Place, mv: Mv, set: FilterSet) -> [u8; 256]
+    requires { ⌜ Accepted (now plane) at ⌝ }
+    ensures { λ r. ⌜ r ≡ picture.block 16 set (picture.image (planeAt (now (plane .entry)) at)) (at .x) (at .y) mv ⌝ }
 {
     if whole_pixel_fraction_is_zero(mv) {
-        return pixels_of_16(plane, stride, w, h, x, y, mv);
+        return pixels_of_16(plane, at.stride, at.w, at.h, at.x, at.y, mv);
     }
-    let halo = halo_of_16(plane, stride, w, h, x, y, mv);
-    filter16(&halo, fraction(mv.col), fraction(mv.row), set)
+    let way = way_of(mv, set);
+    let found = find(at, mv, 21);
+    if found.near {
+        let from = Window {
+            at: found.y * at.stride + found.x,
+            pitch: at.stride,
+        };
+        return filter_wide(plane, from, way);
+    }
+    let halo = halo_of_16(plane, at.stride, at.w, at.h, at.x, at.y, mv);
+    filter_wide(&halo, Window { at: 0, pitch: 21 }, way)
 }
 
 // ---- a 4x4 block, and the same written into a lent destination
@@ -105,27 +126,19 @@ pub fn filter_block_4x4(
     }
     Block4 {
         number,
-        samples: block_of_4(plane, stride, w, h, blk_x, blk_y, mv, set),
+        samples: block_of_4(
+            plane,
+            Place {
+                stride,
+                w,
+                h,
+                x: blk_x,
+                y: blk_y,
+            },
+            mv,
+            set,
+        ),
     }
-}
-
-// A 4x4 block does not fit at column x, row y of so many bytes. The tests stand so that no sum can wrap.
-fn no_room(len: usize, stride: usize, x: usize, y: usize) -> bool
-    ensures { λ r. ⌜ r ≡ noRoom len stride x y ⌝ }
-{
-    if stride < 4 {
-        return true;
-    }
-    if stride - 4 < x {
-        return true;
-    }
-    if 32768 < stride {
-        return true;
-    }
-    if 16383 < y {
-        return true;
-    }
-    len < (y + 3) * stride + x + 4
 }
 
 // Writes the block's 16 bytes at column dst_x, row dst_y of dst, and no others; nothing where it refuses.
@@ -152,7 +165,18 @@ pub fn filter_block_4x4_into(
     if no_room(dst.len(), dst_stride, dst_x, dst_y) {
         return 7;
     }
-    let block = block_of_4(plane, stride, w, h, blk_x, blk_y, mv, set);
-    copy_rect(dst, dst_stride, dst_x, dst_y, 4, 4, &block, 0, 4);
+    let at = Place {
+        stride,
+        w,
+        h,
+        x: blk_x,
+        y: blk_y,
+    };
+    let spot = Spot {
+        stride: dst_stride,
+        x: dst_x,
+        y: dst_y,
+    };
+    tile_into(plane, at, mv, set, dst, spot);
     0
 }

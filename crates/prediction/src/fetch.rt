@@ -1,13 +1,8 @@
 // The fetches: samples of one plane at a vector's whole part, clamped to the picture, at whole pixels or with the halo that the filters need.
 // Each takes every plane, size, position and vector, and refuses by number.
 ghost use mathlib.Core.Path.{_≡_};
-ghost use mathlib.Core.Bool.{false};
-ghost use Prim.Native.Nat.{_<_, _≤_};
-ghost use lib.IntN.{pos, _+ℤ_};
-ghost use Rattle.rfc6386.specs.Vector.{wholePart};
-ghost use Rattle.rfc6386.specs.Refusal.{outside, badStride, planeRefusal};
 ghost use Rattle.rfc6386.specs.Block.{planeOf, pixels4, pixels8, pixels16, halo9, halo13, halo21};
-ghost use Rattle.prediction.specs.Places.{Near};
+use crate::refusal::plane_refusal;
 use crate::square::halo_of_4;
 use crate::square::halo_of_8;
 use crate::square::halo_of_16;
@@ -21,40 +16,6 @@ use rfc6386::Halo9;
 use rfc6386::Halo13;
 use rfc6386::Halo21;
 use rfc6386::Mv;
-
-// Not in 1 .. most.
-pub fn out_of_range(most: usize, n: usize) -> bool
-    ensures { λ r. ⌜ r ≡ outside most n ⌝ }
-    ensures { λ r. ⌜ (r ≡ false → (1 ≤ n) × (n ≤ most)) ⌝ }
-{
-    n == 0 || most < n
-}
-
-fn bad_stride(stride: usize, w: usize) -> bool
-    ensures { λ r. ⌜ r ≡ badStride stride w ⌝ }
-    ensures { λ r. ⌜ (r ≡ false → stride ≤ 32768) ⌝ }
-{
-    stride < w || 32768 < stride
-}
-
-// Numbers 1 to 4 of a call on one plane, for a block that starts at column x, row y; 0 where none applies.
-pub fn plane_refusal(plane: &[u8], stride: usize, w: usize, h: usize, x: usize, y: usize) -> u32
-    ensures { λ r. ⌜ r ≡ planeRefusal (planeOf (now (plane .entry)) stride w h) x y ⌝ }
-{
-    if out_of_range(16384, w) || out_of_range(16384, h) {
-        return 1;
-    }
-    if bad_stride(stride, w) {
-        return 2;
-    }
-    if plane.len() < (h - 1) * stride + w {
-        return 3;
-    }
-    if w <= x || h <= y {
-        return 4;
-    }
-    0
-}
 
 // The 4x4 block at whole pixels: the fraction of the vector is left out.
 pub fn fetch_block_whole_pixel(

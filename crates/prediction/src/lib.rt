@@ -1,6 +1,8 @@
 // VP8 inter prediction: the fetches, blocks, and whole and split macroblocks. No function that the crate offers asks anything of its caller.
 mod block;
+mod chroma;
 mod fetch;
+mod near;
 mod place;
 mod predict;
 mod refusal;
@@ -16,7 +18,6 @@ pub use fetch::fetch_chroma_mb_halo;
 pub use fetch::fetch_chroma_mb_whole_pixel;
 pub use fetch::fetch_luma_mb_halo;
 pub use fetch::fetch_luma_mb_whole_pixel;
-pub use fetch::plane_refusal;
 
 // 6 and 7: macroblocks
 pub use predict::predict_inter_mb;
@@ -26,6 +27,7 @@ pub use predict::predict_merging;
 pub use predict::predict_split_mv;
 pub use predict::predict_split_mv_lowered;
 
-// and how two numbers become one, and what is answered with a number alone
+// the numbers of a call on one plane, how two numbers become one, and what is answered with a number alone
 pub use predict::refused;
 pub use refusal::or_else;
+pub use refusal::plane_refusal;

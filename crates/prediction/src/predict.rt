@@ -4,8 +4,8 @@ ghost use mathlib.Core.Path.{_≡_};
 ghost use mathlib.Core.Bool.{cond, _&&_};
 ghost use Rattle.rfc6386.specs.Vector.{fullPixel, isWhole};
 ghost use Rattle.rfc6386.specs.Macroblock.{lent, whole, split, wholePixel, noSamples};
-use crate::block::block_of_8;
 use crate::block::block_of_16;
+use crate::chroma::blocks_of_8;
 use crate::place::place_of;
 use crate::refusal::or_else;
 use crate::refusal::refusal;
@@ -59,32 +59,18 @@ pub fn predict_inter_mb_lowered(
     }
     let luma = luma_vector(luma_mv, lower_luma);
     let chroma = chroma_vector(luma_mv, lower_chroma);
-    let y_at = place_of(sizes, mb_col, mb_row, 16);
-    let uv_at = place_of(sizes, mb_col, mb_row, 8);
+    let y_at = place_of(sizes.y_stride, sizes, mb_col, mb_row, 16);
+    let u_at = place_of(sizes.u_stride, sizes, mb_col, mb_row, 8);
+    let v_at = place_of(sizes.v_stride, sizes, mb_col, mb_row, 8);
+    let chroma_blocks = blocks_of_8(u, u_at, v, v_at, chroma, set);
+    let u_samples = chroma_blocks.u;
+    let v_samples = chroma_blocks.v;
     Prediction {
         number,
         samples: ReconstructedMb {
-            y: block_of_16(y, sizes.y_stride, y_at.w, y_at.h, y_at.x, y_at.y, luma, set),
-            u: block_of_8(
-                u,
-                sizes.u_stride,
-                uv_at.w,
-                uv_at.h,
-                uv_at.x,
-                uv_at.y,
-                chroma,
-                set,
-            ),
-            v: block_of_8(
-                v,
-                sizes.v_stride,
-                uv_at.w,
-                uv_at.h,
-                uv_at.x,
-                uv_at.y,
-                chroma,
-                set,
-            ),
+            y: block_of_16(y, y_at, luma, set),
+            u: u_samples,
+            v: v_samples,
         },
     }
 }
@@ -151,30 +137,15 @@ pub fn predict_inter_mb_whole_pixel(
     if number != 0 {
         return refused(number);
     }
-    let y_at = place_of(sizes, mb_col, mb_row, 16);
-    let uv_at = place_of(sizes, mb_col, mb_row, 8);
+    let y_at = place_of(sizes.y_stride, sizes, mb_col, mb_row, 16);
+    let u_at = place_of(sizes.u_stride, sizes, mb_col, mb_row, 8);
+    let v_at = place_of(sizes.v_stride, sizes, mb_col, mb_row, 8);
     Prediction {
         number,
         samples: ReconstructedMb {
-            y: pixels_of_16(y, sizes.y_stride, y_at.w, y_at.h, y_at.x, y_at.y, luma),
-            u: pixels_of_8(
-                u,
-                sizes.u_stride,
-                uv_at.w,
-                uv_at.h,
-                uv_at.x,
-                uv_at.y,
-                chroma,
-            ),
-            v: pixels_of_8(
-                v,
-                sizes.v_stride,
-                uv_at.w,
-                uv_at.h,
-                uv_at.x,
-                uv_at.y,
-                chroma,
-            ),
+            y: pixels_of_16(y, y_at.stride, y_at.w, y_at.h, y_at.x, y_at.y, luma),
+            u: pixels_of_8(u, u_at.stride, u_at.w, u_at.h, u_at.x, u_at.y, chroma),
+            v: pixels_of_8(v, v_at.stride, v_at.w, v_at.h, v_at.x, v_at.y, chroma),
         },
     }
 }
@@ -199,42 +170,18 @@ pub fn predict_split_mv_lowered(
         return refused(number);
     }
     let chroma = quarter_vectors(split_luma_mvs, lower_chroma);
-    let y_at = place_of(sizes, mb_col, mb_row, 16);
-    let uv_at = place_of(sizes, mb_col, mb_row, 8);
+    let y_at = place_of(sizes.y_stride, sizes, mb_col, mb_row, 16);
+    let u_at = place_of(sizes.u_stride, sizes, mb_col, mb_row, 8);
+    let v_at = place_of(sizes.v_stride, sizes, mb_col, mb_row, 8);
+    let chroma_blocks = split_chroma(u, u_at, v, v_at, chroma, set);
+    let u_samples = chroma_blocks.u;
+    let v_samples = chroma_blocks.v;
     Prediction {
         number,
         samples: ReconstructedMb {
-            y: split_luma(
-                y,
-                sizes.y_stride,
-                y_at.w,
-                y_at.h,
-                y_at.x,
-                y_at.y,
-                split_luma_mvs,
-                lower_luma,
-                set,
-            ),
-            u: split_chroma(
-                u,
-                sizes.u_stride,
-                uv_at.w,
-                uv_at.h,
-                uv_at.x,
-                uv_at.y,
-                chroma,
-                set,
-            ),
-            v: split_chroma(
-                v,
-                sizes.v_stride,
-                uv_at.w,
-                uv_at.h,
-                uv_at.x,
-                uv_at.y,
-                chroma,
-                set,
-            ),
+            y: split_luma(y, y_at, split_luma_mvs, lower_luma, set),
+            u: u_samples,
+            v: v_samples,
         },
     }
 }

@@ -11,7 +11,9 @@ ghost use Rattle.rfc6386.specs.Picture.{image, square, pixels, halo};
 ghost use Rattle.rfc6386.specs.Refusal.{planeRefusal};
 ghost use Rattle.rfc6386.specs.Block.{planeOf};
 ghost use Rattle.prediction.specs.Places.{Near, Inside, Source, clampedRow, clampedRect};
-use filters::copy_rect;
+use filters::rect::Spot;
+use filters::rect::Window;
+use filters::rect::copy_rect;
 use motion_vectors::whole_part;
 use rfc6386::Mv;
 
@@ -83,7 +85,7 @@ fn clamped(
 }
 
 // All n places from src on lie in 0 .. size - 1, the last one included.
-fn inside(src: i64, n: usize, size: usize) -> bool
+pub fn inside(src: i64, n: usize, size: usize) -> bool
     requires { ⌜ Near src ⌝ }
     requires { ⌜ size ≤ 16384 ⌝ }
     ensures { λ r. ⌜ (r ≡ true → Inside src n size) ⌝ }
@@ -121,17 +123,39 @@ fn fetch(
     if inside(x0, n, w) {
         if inside(y0, n, h) {
             let at = (y0 as usize) * stride + (x0 as usize);
-            copy_rect(out, n, 0, 0, n, n, plane, at, stride);
+            copy_rect(
+                out,
+                Spot {
+                    stride: n,
+                    x: 0,
+                    y: 0,
+                },
+                n,
+                n,
+                plane,
+                Window { at, pitch: stride },
+            );
             return;
         }
     }
     let mut wide = [0u8; 441];
     clamped(plane, stride, w, h, x0, y0, cols, rows, &mut wide);
-    copy_rect(out, n, 0, 0, n, n, &wide, 0, cols);
+    copy_rect(
+        out,
+        Spot {
+            stride: n,
+            x: 0,
+            y: 0,
+        },
+        n,
+        n,
+        &wide,
+        Window { at: 0, pitch: cols },
+    );
 }
 
 // Where a block's samples start on one axis, at whole pixels.
-fn origin(at: usize, m: i16) -> i64
+pub fn origin(at: usize, m: i16) -> i64
     requires { ⌜ at < 16384 ⌝ }
     ensures { λ r. ⌜ r ≡ pos at +ℤ wholePart m ⌝ }
 {

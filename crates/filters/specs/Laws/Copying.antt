@@ -8,11 +8,12 @@ use native.Mathlib.Nat.{mod-lt, div-add-mod', le-antisymm}
 use native.Mathlib.Omega.{arith}
 use borrow.Author.Count.{below-more}
 use borrow.Author.Tests.{ltb-true, ltb-false, leb-true, leb-false}
+use lib.Arith.{digits-div, digits-mod}
 use lib.Dec.{leb, ltb}
 use lib.ListN.{length, getD, set, length-set}
 use lib.Seq.{getD-set-same, getD-set-other}
 use Rattle.rfc6386.specs.Raster.{tab, within, written}
-use Rattle.rfc6386.specs.Laws.Raster.{is-tab, length-tab, getD-tab, within-true, row-fits}
+use Rattle.rfc6386.specs.Laws.Raster.{is-tab, length-tab, getD-tab, within-true, row-fits, getD-written}
 use Rattle.filters.specs.Rows.{laid}
 
 -- ---- one of n numbers from a on, and not
@@ -24,7 +25,7 @@ within-cases a n k P one none = go (leb a k) (ltb k (a + n)) refl refl
     go true false e f = none (λ h l. omega (arith, ltb-false k (a + n) f))
     go false v e f = none (λ h l. omega (arith, leb-false a k e))
 
-within-false : (a n k : ℕ) → (a ≤ k → k < a + n → ⊥) → within a n k ≡ false
+pub within-false : (a n k : ℕ) → (a ≤ k → k < a + n → ⊥) → within a n k ≡ false
 within-false a n k out = within-cases a n k (λ b. b ≡ false) (λ h l. absurd (out h l)) (λ out. refl)
 
 within-same : (a n k a′ n′ k′ : ℕ) → (a ≤ k → k < a + n → (a′ ≤ k′) × (k′ < a′ + n′)) → (a′ ≤ k′ → k′ < a′ + n′ → (a ≤ k) × (k < a + n))
@@ -34,7 +35,7 @@ within-same a n k a′ n′ k′ to from =
     (λ h l. sym (within-true a′ n′ k′ (to h l .0) (to h l .1)))
     (λ out. sym (within-false a′ n′ k′ (λ h l. out (from h l .0) (from h l .1))))
 
-either : (a b : ℕ) {P : Type 0} → (a < b → P) → (b ≤ a → P) → P
+pub either : (a b : ℕ) {P : Type 0} → (a < b → P) → (b ≤ a → P) → P
 either a b {P} less more = go (ltb a b) refl
   where
     go : (t : Bool) → ltb a b ≡ t → P
@@ -74,13 +75,24 @@ laying-all {d₀} {d} {to} {n} {c} {f} L h =
     (λ a b. let q : to + (i - to) ≡ i = omega arith in subst (λ (j : ℕ). getD d j 0 ≡ f (i - to)) q (L .done (i - to) (omega arith)))
     (λ out. L .rest i (λ a b. out a (omega arith))))
 
-getD-laid : (d : List ℕ) (to n : ℕ) (f : ℕ → ℕ) (i : ℕ) → i < length d → getD (laid d to n f) i 0 ≡ cond (within to n i) (f (i - to)) (getD d i 0)
+pub getD-laid : (d : List ℕ) (to n : ℕ) (f : ℕ → ℕ) (i : ℕ) → i < length d → getD (laid d to n f) i 0 ≡ cond (within to n i) (f (i - to)) (getD d i 0)
 unfolding laid
 getD-laid d to n f i h = getD-tab _ _ i 0 h
 
-length-laid : (d : List ℕ) (to n : ℕ) (f : ℕ → ℕ) → length (laid d to n f) ≡ length d
+pub length-laid : (d : List ℕ) (to n : ℕ) (f : ℕ → ℕ) → length (laid d to n f) ≡ length d
 unfolding laid
 length-laid d to n f = length-tab _ _
+
+-- an element of the row, and one beside it
+pub laid-in : (d : List ℕ) (to n : ℕ) (f : ℕ → ℕ) (k : ℕ) → to + n ≤ length d → k < n → getD (laid d to n f) (to + k) 0 ≡ f k
+laid-in d to n f k room h =
+    getD-laid d to n f (to + k) (omega arith)
+    ∙ ap (λ (b : Bool). cond b (f (to + k - to)) (getD d (to + k) 0)) (within-true to n (to + k) (omega arith) (omega arith))
+    ∙ ap f (omega arith)
+
+pub laid-out : (d : List ℕ) (to n : ℕ) (f : ℕ → ℕ) (i : ℕ) → i < length d → (to ≤ i → i < to + n → ⊥) → getD (laid d to n f) i 0 ≡ getD d i 0
+laid-out d to n f i h out =
+    getD-laid d to n f i h ∙ ap (λ (b : Bool). cond b (f (i - to)) (getD d i 0)) (within-false to n i out)
 
 -- a row over all of a list
 pub laid-over : (d : List ℕ) (n : ℕ) (f : ℕ → ℕ) → length d ≡ n → laid d 0 n f ≡ tab n f
@@ -162,3 +174,28 @@ writing-all {d₀} {d} {stride} {x} {y} {w} {rows} {r} {f} W h =
     (λ i l.
     W .done i l
     ∙ ap (λ (n : ℕ). cond (within y n (i / stride) && within x w (i % stride)) (f (i / stride - y) (i % stride - x)) (getD d₀ i 0)) (le-antisymm (W .most) h))
+
+-- ---- what stands at row q, column m, once a rectangle is written
+pub written-look : (d : List ℕ) {d′ : List ℕ} (s x y w rows : ℕ) (f : ℕ → ℕ → ℕ) → d′ ≡ written d s x y w rows f → (q m : ℕ) → m < s → q * s + m < length d → (b c : Bool)
+    → within y rows q ≡ b → within x w m ≡ c → getD d′ (q * s + m) 0 ≡ cond (b && c) (f (q - y) (m - x)) (getD d (q * s + m) 0)
+written-look d s x y w rows f e q m hm h b c eb ec =
+    ap (λ (l : List ℕ). getD l (q * s + m) 0) e
+    ∙ getD-written d s x y w rows f (q * s + m) h
+    ∙ rw (digits-div q hm, digits-mod q hm, eb, ec) refl
+
+-- in it
+pub written-in : (d : List ℕ) {d′ : List ℕ} (s x y w rows : ℕ) (f : ℕ → ℕ → ℕ) → d′ ≡ written d s x y w rows f → x + w ≤ s → (r c i : ℕ) → r < rows → c < w
+    → i ≡ (y + r) * s + (x + c) → i < length d → getD d′ i 0 ≡ f r c
+written-in d {d′} s x y w rows f e across r c i hr hc ei h =
+    ap (λ (k : ℕ). getD d′ k 0) ei
+    ∙ written-look d s x y w rows f e (y + r) (x + c) (omega arith) (omega arith) true true
+    (within-true y rows (y + r) (omega arith) (omega arith)) (within-true x w (x + c) (omega arith) (omega arith))
+    ∙ ap₂ f (omega arith) (omega arith)
+
+-- and above or below it
+pub written-off : (d : List ℕ) {d′ : List ℕ} (s x y w rows : ℕ) (f : ℕ → ℕ → ℕ) → d′ ≡ written d s x y w rows f → (q m i : ℕ) → m < s → i ≡ q * s + m → i < length d
+    → (y ≤ q → q < y + rows → ⊥) → getD d′ i 0 ≡ getD d i 0
+written-off d {d′} s x y w rows f e q m i hm ei h out =
+    ap (λ (k : ℕ). getD d′ k 0) ei
+    ∙ written-look d s x y w rows f e q m hm (omega arith) false (within x w m) (within-false y rows q out) refl
+    ∙ ap (λ (k : ℕ). getD d k 0) (sym ei)

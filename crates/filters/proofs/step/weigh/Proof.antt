@@ -1,13 +1,9 @@
 -- `weigh` meets its contract: `step-is` says a step in natural numbers, and that is what the code computes. Assumes nothing.
 use borrow.Author.Needs.{needs}
-use native.Mathlib.Omega.{arith}
 use Rattle.rfc6386.specs.Laws.Steps.{step-is}
 use Rattle.filters.specs.Taps.{sizesOf}
 use Rattle.filters.proofs.step.weigh.Statement.{statement}
 use Rattle.filters.proofs.step.weigh.Tie as tie
-
-cast-result : tie.Need-cast-result
-cast-result c = omega (arith, c .least .ensures)
 
 returns : tie.Need-returns
 returns c =
@@ -31,5 +27,4 @@ weigh-spec =
     (λ c. search needs)
     (λ c κs. search needs)
     (λ c κs. search needs)
-    cast-result
     returns)

@@ -1,39 +1,53 @@
--- `block_of_16` copies whole pixels, or filters the halo.
+-- `block::block_of_16` copies whole pixels, or filters the halo, near or far. Assumes nothing.
 use borrow.Author.Needs.{needs}
-use mathlib.Core.Path.{sym, ap, _∙_}
+use mathlib.Core.Path.{sym, _∙_}
 use native.Mathlib.Omega.{arith}
-use mir.Syntax.{w16}
-use mir.Val.{toZ, ofZ}
-use Rattle.signed.specs.Held.{got}
-use Rattle.rfc6386.specs.Vector.{fraction}
-use Rattle.rfc6386.specs.Laws.Vectors.{fraction-under}
+use Rattle.rfc6386.specs.Picture.{image}
+use Rattle.rfc6386.specs.Laws.Refusals.{PlaneAccepts, plane-accepts}
+use Rattle.rfc6386.specs.Laws.Samples.{Bytes}
 use Rattle.rfc6386.specs.Laws.Blocks.{image-bytes}
-use Rattle.rfc6386.specs.Laws.Halos.{whole-block, filtered-block}
+use Rattle.rfc6386.specs.Laws.Halos.{whole-block}
+use Rattle.prediction.specs.Places.{planeAt, HaloAt}
+use Rattle.prediction.proofs.Fetches.{under-x, under-y}
+use Rattle.prediction.proofs.Windows.{way-mx, way-my, way-block, near-held, near-window, far-size, far-window}
 use Rattle.prediction.proofs.block.block_of_16.Statement.{statement}
 use Rattle.prediction.proofs.block.block_of_16.Tie as tie
 
-returns : tie.Need-returns
-returns c = let t = c .before in whole-block 16 _ _ _ _ _ (c .pixels-of-16 .ensures) (sym (t .before .whole-pixel-fraction-is-zero .ensures) ∙ t .if1 .taken)
+accepts : (c : tie.Start) → let a = c .args in PlaneAccepts (planeAt (a .plane .now) (a .at)) (a .at .x) (a .at .y)
+accepts c = plane-accepts _ _ _ (c .pre)
 
-filter16-requires : tie.Need-filter16-requires
-filter16-requires c κs =
-    let f = c .before .before in
-    let a = fraction-under (toZ w16 (ofZ w16 (f .before .before .before .before .before .before .before .args .mv .col))) in
-    let b = fraction-under (toZ w16 (ofZ w16 (f .before .before .before .before .before .before .before .args .mv .row))) in
-    (omega (arith, f .fraction .ensures, a), omega (arith, c .fraction2 .ensures, b))
+bytes : (c : tie.After-shared-slice-known) → let a = c .before .args in Bytes (image (planeAt (a .plane .now) (a .at)))
+bytes c = image-bytes _ (λ i. omega (arith, c .shared-slice-known .given i))
+
+inside : (c : tie.Then2) → let a = c .before .before .before .before .before .before .args in let f = c .before .find .result in HaloAt (a .at) (a .mv) 21 (f .x) (f .y)
+inside c = c .before .find .ensures (c .if2 .taken)
+
+returns : tie.Need-returns
+returns c = let t = (c .before) in whole-block 16 _ _ _ _ _ (c .pixels-of-16 .ensures) (sym (t .before .whole-pixel-fraction-is-zero .ensures) ∙ t .if1 .taken)
+
+find-requires : tie.Need-find-requires
+find-requires c κs = let A = accepts (c .before .before .before .before) in ((under-x A, under-y A), (A .width-most, A .height-most))
+
+filter-wide-requires : tie.Need-filter-wide-requires
+filter-wide-requires c κs = (near-held 16 (accepts (c .before .before .before .before .before .before .before .before .before)) (inside (c .before .before .before)), (way-mx (c .before .before .before .before .before .before .before .before .before .args .mv) _ (c .before .before .before .before .before .way-of .ensures), way-my (c .before .before .before .before .before .before .before .before .before .args .mv) _ (c .before .before .before .before .before .way-of .ensures)))
 
 returns-2 : tie.Need-returns-2
 returns-2 c =
-    let q = c .before in
-    let p = q .before .before in
-    let h = p .before .before .before in
-    let s = h .before .before .before in
-    let v = s .before .args .mv in
-    filtered-block 16 _ _ _ _ v (image-bytes _ (λ i. omega (arith, s .shared-slice-known .given i)))
-    (h .halo-of-16 .ensures)
-    (p .fraction .ensures ∙ ap fraction (got w16 (v .col) (p .before .struct-told .given .1 .0 .1) .is))
-    (q .fraction2 .ensures ∙ ap fraction (got w16 (v .row) (q .before .struct-told2 .given .0 .1) .is))
-    (c .filter16 .ensures)
+    let a = c .before .before .before .before .before .before .before .before .before .before .args in
+    way-block 16 (a .set) _ (a .at .x) (a .at .y) (a .mv) (bytes (c .before .before .before .before .before .before .before .before .before)) (c .before .before .before .before .before .before .way-of .ensures)
+    (near-window 16 (accepts (c .before .before .before .before .before .before .before .before .before .before)) (inside (c .before .before .before .before))) (c .filter-wide .ensures)
+
+filter-wide-requires-2 : tie.Need-filter-wide-requires-2
+filter-wide-requires-2 c κs =
+    let w = c .before .before .before .before .way-of .ensures in
+    let size = far-size 16 _ (c .before .before .before .before .before .before .before .before .args .at .x) (c .before .before .before .before .before .before .before .before .args .at .y) (c .before .before .before .before .before .before .before .before .args .mv) (c .before .halo-of-16 .ensures) in
+    (λ r h. omega (arith, size), (way-mx (c .before .before .before .before .before .before .before .before .args .mv) _ w, way-my (c .before .before .before .before .before .before .before .before .args .mv) _ w))
+
+returns-3 : tie.Need-returns-3
+returns-3 c =
+    let a = c .before .before .before .before .before .before .before .before .before .args in
+    way-block 16 (a .set) _ (a .at .x) (a .at .y) (a .mv) (bytes (c .before .before .before .before .before .before .before .before)) (c .before .before .before .before .before .way-of .ensures)
+    (far-window 16 _ (c .before .before .before .before .before .before .before .before .before .args .at .x) (c .before .before .before .before .before .before .before .before .before .args .at .y) (c .before .before .before .before .before .before .before .before .before .args .mv) (c .before .before .halo-of-16 .ensures)) (c .filter-wide2 .ensures)
 
 pub block-of-16-spec : {M : Type 1} → statement M
 block-of-16-spec =
@@ -43,7 +57,12 @@ block-of-16-spec =
     (λ c κs. search needs)
     returns
     (λ c κs. search needs)
+    find-requires
+    (λ c. omega (arith, near-held 16 (accepts (c .before .before .before .before .before .before .before .before)) (inside (c .before .before)) 0 (omega arith)))
+    (λ c. omega (arith, near-held 16 (accepts (c .before .before .before .before .before .before .before .before .before)) (inside (c .before .before .before)) 0 (omega arith)))
+    filter-wide-requires
+    returns-2
     (λ c κs. search needs)
-    (λ c κs. search needs)
-    filter16-requires
-    returns-2)
+    (λ c. search needs)
+    filter-wide-requires-2
+    returns-3)

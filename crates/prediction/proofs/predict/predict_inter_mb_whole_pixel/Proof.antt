@@ -7,7 +7,7 @@ use Prim.Native.Nat.{ℕ}
 use Rattle.rfc6386.specs.Vector.{fullPixel, isWhole}
 use Rattle.rfc6386.specs.Picture.{image, pixels}
 use Rattle.rfc6386.specs.Refusal.{orElse}
-use Rattle.rfc6386.specs.Block.{planeOf}
+use Rattle.prediction.specs.Places.{planeAt}
 use Rattle.rfc6386.specs.Macroblock.{lent, refusal, fractionLeft, wholePixel, pixelSamples}
 use Rattle.rfc6386.specs.Laws.Refusals.{Accepts, or-else-zero, refused-is, done-is}
 use Rattle.rfc6386.specs.declared.Mv.{Mv}
@@ -34,44 +34,22 @@ placed c = accepted (c .before .before .before .refusal .ensures) (or-else-zero 
 
 returns : tie.Need-returns
 unfolding wholePixel
-returns c = c .refused .ensures ∙ refused-is _ (numbered (c .before .before)) (c .before .if1 .taken)
-
-place-of-requires : tie.Need-place-of-requires
-place-of-requires c κs = room _ _ _ _ _ _ (placed c) 16 (omega arith)
-
-place-of-requires-2 : tie.Need-place-of-requires-2
-place-of-requires-2 c κs = room _ _ _ _ _ _ (placed (c .before)) 8 (omega arith)
-
-pixels-of-16-requires : tie.Need-pixels-of-16-requires
-pixels-of-16-requires c κs = luma-at _ _ _ _ _ _ (placed (c .before .before)) (c .before .place-of .ensures)
-
-pixels-of-8-requires : tie.Need-pixels-of-8-requires
-pixels-of-8-requires c κs = u-at _ _ _ _ _ _ (placed (c .before .before .before)) (c .before .place-of2 .ensures)
-
-pixels-of-8-requires-2 : tie.Need-pixels-of-8-requires-2
-pixels-of-8-requires-2 c κs = v-at _ _ _ _ _ _ (placed (c .before .before .before .before)) (c .before .before .place-of2 .ensures)
+returns c =
+    c .refused .ensures ∙ refused-is _ (numbered ((c .before .before))) (c .before .if1 .taken)
 
 returns-2 : tie.Need-returns-2
 unfolding wholePixel pixelSamples
 returns-2 c =
-    let at-u = c .before in
-    let at-y = at-u .before in
-    let uv = at-y .before in
-    let y = uv .before in
-    let e = y .before in
-    let n = e .before in
-    let chroma = n .before .before .before in
-    let luma = chroma .before in
-    let a = luma .before .before .before .before .args in
-    let s = a .sizes in
-    done-is (numbered n) (e .if1 .left)
+    let a = c .before .before .before .before .before .before .before .before .before .before .before .before .before .before .before .args in
+    let chroma = c .before .before .before .before .before .before .before .before .before .before .chroma-vector .ensures in
+    done-is (numbered ((c .before .before .before .before .before .before .before))) (c .before .before .before .before .before .before .if1 .left)
     (three
-    (moved (λ p m. pixels 16 (image (planeOf (a .y .now) (s .«y_stride») (p .w) (p .h))) (p .x) (p .y) m)
-    (at-y .pixels-of-16 .ensures) (y .place-of .ensures) (luma .luma-vector .ensures))
-    (moved (λ p m. pixels 8 (image (planeOf (a .u .now) (s .«u_stride») (p .w) (p .h))) (p .x) (p .y) m)
-    (at-u .pixels-of-8 .ensures) (uv .place-of2 .ensures) (chroma .chroma-vector .ensures))
-    (moved (λ p m. pixels 8 (image (planeOf (a .v .now) (s .«v_stride») (p .w) (p .h))) (p .x) (p .y) m)
-    (c .pixels-of-82 .ensures) (uv .place-of2 .ensures) (chroma .chroma-vector .ensures)))
+    (moved (λ p m. pixels 16 (image (planeAt (a .y .now) p)) (p .x) (p .y) m)
+    (c .before .before .pixels-of-16 .ensures) (c .before .before .before .before .before .place-of .ensures) (c .before .before .before .before .before .before .before .before .before .before .before .luma-vector .ensures))
+    (moved (λ p m. pixels 8 (image (planeAt (a .u .now) p)) (p .x) (p .y) m)
+    (c .before .pixels-of-8 .ensures) (c .before .before .before .before .place-of2 .ensures) chroma)
+    (moved (λ p m. pixels 8 (image (planeAt (a .v .now) p)) (p .x) (p .y) m)
+    (c .pixels-of-82 .ensures) (c .before .before .before .place-of3 .ensures) chroma))
 
 pub predict-inter-mb-whole-pixel-spec : {M : Type 1} → statement M
 predict-inter-mb-whole-pixel-spec =
@@ -84,9 +62,10 @@ predict-inter-mb-whole-pixel-spec =
     (λ c κs. search needs)
     (λ c κs. search needs)
     returns
-    place-of-requires
-    place-of-requires-2
-    pixels-of-16-requires
-    pixels-of-8-requires
-    pixels-of-8-requires-2
+    (λ c κs. room _ _ _ _ _ _ (placed c) 16 (omega arith))
+    (λ c κs. room _ _ _ _ _ _ (placed (c .before)) 8 (omega arith))
+    (λ c κs. room _ _ _ _ _ _ (placed (c .before .before)) 8 (omega arith))
+    (λ c κs. luma-at _ _ _ _ _ _ (placed (c .before .before .before)) (c .before .before .place-of .ensures))
+    (λ c κs. u-at _ _ _ _ _ _ (placed (c .before .before .before .before)) (c .before .before .place-of2 .ensures))
+    (λ c κs. v-at _ _ _ _ _ _ (placed (c .before .before .before .before .before)) (c .before .before .place-of3 .ensures))
     returns-2)

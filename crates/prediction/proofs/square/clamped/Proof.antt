@@ -33,7 +33,7 @@ clamp-at-requires c κs =
 row : (c : tie.After-clamp-at Inv-loop μ-loop) →
     let a = c .before .before .before .before .before .args in
     c .clamp-at .result * a .stride + a .w ≤ length (a .plane .now)
-row c = in-plane (c .before .before .before .before .before .pre .0) (c .clamp-at .result) (c .clamp-at .ensures .1)
+row c = in-plane (c .before .before .before .before .before .pre .0 .fits) (c .clamp-at .result) (c .clamp-at .ensures .1)
 
 -- and in the rectangle
 room : (c : tie.In-loop Inv-loop μ-loop) → let a = c .before .before .before .before .args in c .before .loop .r * a .cols + a .cols ≤ length (a .out .now)

@@ -12,7 +12,8 @@ use Rattle.signed.specs.Held.{Held, par-in, nat-need}
 use Rattle.rfc6386.specs.Picture.{Plane}
 use Rattle.rfc6386.specs.Block.{planeOf}
 use Rattle.rfc6386.specs.Laws.Raster.{row-fits, written-all}
-use Rattle.prediction.proofs.Squares.{source-as, square-as, Starts, starts, plain-held, plain-is, corner-is, square-room}
+use Rattle.prediction.specs.Places.{Lies}
+use Rattle.prediction.proofs.Squares.{source-as, square-as, starts, plain-held, plain-is, corner-is, square-room}
 use Rattle.prediction.proofs.square.fetch.Statement.{statement}
 use Rattle.prediction.proofs.square.fetch.Tie as tie
 
@@ -29,16 +30,16 @@ plane c = let a = c .args in planeOf (a .plane .now) (a .stride) (a .w) (a .h)
 abbrev entry : tie.Then2 → tie.Start
 entry c = c .before .before .before .before .before .before
 
-from-x : (c : tie.Then2) → let s = entry c in Starts (s .args .x0) (s .args .n) (s .args .w) (natAbs (x0 s .val))
+from-x : (c : tie.Then2) → let s = entry c in Lies (s .args .x0) (s .args .n) (s .args .w) (natAbs (x0 s .val))
 from-x c = let i = c .before .before .before in starts (x0 (entry c)) (i .inside .ensures (c .before .before .if1 .taken))
 
-from-y : (c : tie.Then2) → let s = entry c in Starts (s .args .y0) (s .args .n) (s .args .h) (natAbs (y0 s .val))
+from-y : (c : tie.Then2) → let s = entry c in Lies (s .args .y0) (s .args .n) (s .args .h) (natAbs (y0 s .val))
 from-y c = starts (y0 (entry c)) (c .before .inside2 .ensures (c .if2 .taken))
 
 -- each row lies in the plane
 held : (c : tie.Then2) → let a = entry c .args in
     (r : ℕ) → r < a .n → natAbs (y0 (entry c) .val) * a .stride + natAbs (x0 (entry c) .val) + r * a .stride + a .n ≤ length (a .plane .now)
-held c = plain-held (entry c .pre .0) (from-x c) (from-y c)
+held c = plain-held (entry c .pre .0 .fits) (from-x c) (from-y c)
 
 copy-rect-requires : tie.Need-copy-rect-requires
 copy-rect-requires c κs = let s = entry (c .before) in (square-room (s .pre .1 .0 .0) (s .pre .1 .1 .1), held (c .before))
@@ -50,7 +51,7 @@ returns c =
     let s = entry t in
     call .copy-rect .ensures
     ∙ written-all (s .args .out .now) (s .args .n) (s .args .n) _ (s .pre .1 .1 .1)
-    ∙ plain-is (s .pre .0) (from-x t) (from-y t)
+    ∙ plain-is (s .pre .0 .fits) (from-x t) (from-y t)
 
 -- ---- some of it outside
 abbrev start : tie.After-wide → tie.Start

@@ -1,0 +1,228 @@
+// One step, and the filters over a halo, as in the Rust: a block of 4, 8 or 16 samples a side out of its halo, by the column fraction mx and
+// the row fraction my. Each call is answered, or refused by number.
+ghost use mathlib.Core.Path.{_≡_};
+ghost use Prim.Native.Nat.{_+_, _*_, _<_, _≤_};
+ghost use lib.ListN.{length};
+ghost use Rattle.rfc6386.specs.Filter as filter;
+ghost use Rattle.rfc6386.specs.Picture.{haloBlock};
+ghost use Rattle.rfc6386.specs.Block.{interpolated, filtered4, filtered8, filtered16};
+use crate::rect::Spot;
+use crate::rect::Window;
+use crate::rect::copy_rect;
+use crate::step::weigh_at;
+use crate::strips::filter_strips;
+use crate::taps::taps_of;
+use crate::tile::filter_tile;
+use crate::way::Way;
+use crate::wide::filter_wide;
+use rfc6386::Block4;
+use rfc6386::Block8;
+use rfc6386::Block16;
+use rfc6386::FilterSet;
+use rfc6386::Sample;
+
+pub fn clamp255(v: i32) -> u8
+    ensures { λ r. ⌜ r ≡ filter.clamp255 v ⌝ }
+{
+    if v < 0 {
+        return 0;
+    }
+    if v > 255 {
+        return 255;
+    }
+    v as u8
+}
+
+// One step over six samples with row k of a table.
+pub fn interp(set: FilterSet, k: usize, support: &[u8; 6]) -> Sample
+    ensures { λ r. ⌜ r ≡ interpolated set k (now (support .entry)) ⌝ }
+{
+    if 7 < k {
+        return Sample {
+            number: 5,
+            sample: 0,
+        };
+    }
+    Sample {
+        number: 0,
+        sample: weigh_at(support, 0, 1, taps_of(set, k)) as u8,
+    }
+}
+
+// The middle of a halo, which is the block where both fractions are 0, by any table.
+fn middle(halo: &[u8], n: usize, out: &mut [u8])
+    requires { ⌜ (1 ≤ n) × (n ≤ 16) ⌝ }
+    requires { ⌜ length (now halo) ≡ (n + 5) * (n + 5) ⌝ }
+    requires { ⌜ length (now out) ≡ n * n ⌝ }
+    ensures { λ _. ⌜ ((set : FilterSet) → now (out .exit) ≡ haloBlock n set (now (halo .entry)) 0 0) ⌝ }
+{
+    copy_rect(
+        out,
+        Spot {
+            stride: n,
+            x: 0,
+            y: 0,
+        },
+        n,
+        n,
+        halo,
+        Window {
+            at: 2 * (n + 5) + 2,
+            pitch: n + 5,
+        },
+    );
+}
+
+// ---- 4 samples a side
+fn filter_4(halo: &[u8; 81], way: Way) -> [u8; 16]
+    requires { ⌜ way .mx < 8 ⌝ }
+    requires { ⌜ way .my < 8 ⌝ }
+    ensures { λ r. ⌜ r ≡ haloBlock 4 (way .set) (now (halo .entry)) (way .mx) (way .my) ⌝ }
+{
+    let mut out = [0u8; 16];
+    if way.mx == 0 {
+        if way.my == 0 {
+            middle(halo, 4, &mut out);
+            return out;
+        }
+    }
+    filter_tile(
+        halo,
+        Window { at: 0, pitch: 9 },
+        way,
+        &mut out,
+        Spot {
+            stride: 4,
+            x: 0,
+            y: 0,
+        },
+    );
+    out
+}
+
+pub fn sixtap_2d(halo: &[u8; 81], mx: usize, my: usize, set: FilterSet) -> Block4
+    ensures { λ r. ⌜ r ≡ filtered4 set (now (halo .entry)) mx my ⌝ }
+{
+    if 7 < mx {
+        return Block4 {
+            number: 5,
+            samples: [0u8; 16],
+        };
+    }
+    if 7 < my {
+        return Block4 {
+            number: 5,
+            samples: [0u8; 16],
+        };
+    }
+    Block4 {
+        number: 0,
+        samples: filter_4(halo, Way { set, mx, my }),
+    }
+}
+
+// ---- 8 samples a side, as two strips: the upper four rows beside the lower four
+fn filter_8(halo: &[u8; 169], way: Way) -> [u8; 64]
+    requires { ⌜ way .mx < 8 ⌝ }
+    requires { ⌜ way .my < 8 ⌝ }
+    ensures { λ r. ⌜ r ≡ haloBlock 8 (way .set) (now (halo .entry)) (way .mx) (way .my) ⌝ }
+{
+    let mut out = [0u8; 64];
+    if way.mx == 0 {
+        if way.my == 0 {
+            middle(halo, 8, &mut out);
+            return out;
+        }
+    }
+    let strips = filter_strips(
+        halo,
+        Window { at: 0, pitch: 13 },
+        halo,
+        Window { at: 52, pitch: 13 },
+        4,
+        way,
+    );
+    copy_rect(
+        &mut out,
+        Spot {
+            stride: 8,
+            x: 0,
+            y: 0,
+        },
+        8,
+        4,
+        &strips,
+        Window { at: 0, pitch: 16 },
+    );
+    copy_rect(
+        &mut out,
+        Spot {
+            stride: 8,
+            x: 0,
+            y: 4,
+        },
+        8,
+        4,
+        &strips,
+        Window { at: 8, pitch: 16 },
+    );
+    out
+}
+
+pub fn sixtap_mb_chroma(halo: &[u8; 169], mx: usize, my: usize, set: FilterSet) -> Block8
+    ensures { λ r. ⌜ r ≡ filtered8 set (now (halo .entry)) mx my ⌝ }
+{
+    if 7 < mx {
+        return Block8 {
+            number: 5,
+            samples: [0u8; 64],
+        };
+    }
+    if 7 < my {
+        return Block8 {
+            number: 5,
+            samples: [0u8; 64],
+        };
+    }
+    Block8 {
+        number: 0,
+        samples: filter_8(halo, Way { set, mx, my }),
+    }
+}
+
+// ---- 16 samples a side
+fn filter_16(halo: &[u8; 441], way: Way) -> [u8; 256]
+    requires { ⌜ way .mx < 8 ⌝ }
+    requires { ⌜ way .my < 8 ⌝ }
+    ensures { λ r. ⌜ r ≡ haloBlock 16 (way .set) (now (halo .entry)) (way .mx) (way .my) ⌝ }
+{
+    if way.mx == 0 {
+        if way.my == 0 {
+            let mut out = [0u8; 256];
+            middle(halo, 16, &mut out);
+            return out;
+        }
+    }
+    filter_wide(halo, Window { at: 0, pitch: 21 }, way)
+}
+
+pub fn sixtap_mb_luma(halo: &[u8; 441], mx: usize, my: usize, set: FilterSet) -> Block16
+    ensures { λ r. ⌜ r ≡ filtered16 set (now (halo .entry)) mx my ⌝ }
+{
+    if 7 < mx {
+        return Block16 {
+            number: 5,
+            samples: [0u8; 256],
+        };
+    }
+    if 7 < my {
+        return Block16 {
+            number: 5,
+            samples: [0u8; 256],
+        };
+    }
+    Block16 {
+        number: 0,
+        samples: filter_16(halo, Way { set, mx, my }),
+    }
+}
