@@ -16,6 +16,7 @@
 #include <stdlib.h>
 #include <string.h>
 
+#include "../draw.h"
 #include "threshowl.h"
 
 enum { MOST_MBS = 4, MOST_STRIDE = MOST_MBS * 16 + 24, MOST_BYTES = MOST_MBS * 16 * MOST_STRIDE };
@@ -54,26 +55,6 @@ typedef struct {
 typedef enum { WHOLE, SPLIT, MERGING } Kind;
 
 /* ---- numbers drawn at random */
-
-static uint64_t state;
-
-static uint32_t draw(void)
-{
-    state ^= state << 13;
-    state ^= state >> 7;
-    state ^= state << 17;
-    return (uint32_t)(state >> 32);
-}
-
-static size_t below(size_t n)
-{
-    return draw() % n;
-}
-
-static int16_t between(int least, int most)
-{
-    return (int16_t)(least + (int)below((size_t)(most - least) + 1));
-}
 
 /* In -16383..16383: near, far, and the ends of the range. */
 static int16_t in_range(void)

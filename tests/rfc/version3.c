@@ -20,6 +20,7 @@
 #include <stdlib.h>
 #include <string.h>
 
+#include "../draw.h"
 #include "reading.h"
 #include "reference.h"
 #include "stream.h"
@@ -28,26 +29,6 @@
 #endif
 
 /* ---- numbers drawn at random */
-
-static uint64_t state;
-
-static uint32_t draw(void)
-{
-    state ^= state << 13;
-    state ^= state >> 7;
-    state ^= state << 17;
-    return (uint32_t)(state >> 32);
-}
-
-static size_t below(size_t n)
-{
-    return draw() % n;
-}
-
-static int16_t between(int least, int most)
-{
-    return (int16_t)(least + (int)below((size_t)(most - least) + 1));
-}
 
 static int16_t inside(void)
 {

@@ -16,6 +16,7 @@
 #include <stdlib.h>
 #include <string.h>
 
+#include "../draw.h"
 #include "threshowl.h"
 
 enum { COLS = 3, ROWS = 2, Y_STRIDE = COLS * 16 + 5, U_STRIDE = COLS * 8 + 3, V_STRIDE = COLS * 8 };
@@ -37,16 +38,6 @@ typedef struct {
 static uint8_t y[Y_LEN], u[U_LEN], v[V_LEN];
 
 /* ---- numbers drawn at random */
-
-static uint64_t state;
-
-static uint32_t draw(void)
-{
-    state ^= state << 13;
-    state ^= state >> 7;
-    state ^= state << 17;
-    return (uint32_t)(state >> 32);
-}
 
 static void fill(uint8_t *bytes, size_t len)
 {
