@@ -46,7 +46,8 @@ use Rattle.rfc6386.proofs.FilterSet as F
 use Rattle.rfc6386.proofs.FilterSet.Laws as F′
 use Rattle.rfc6386.proofs.Prediction as S
 use Rattle.rfc6386.proofs.Prediction.Laws as S′
-use Rattle.entries.specs.Lists.{countRefusal, sixteenOf, refusedBy}
+use Rattle.rfc6386.specs.Refusal.{countRefusal}
+use Rattle.entries.specs.Lists.{sixteenOf, refusedBy}
 use Rattle.entries.specs.declared.sixteen.MvList.{MvList}
 use Rattle.entries.proofs.sixteen.MvList as L
 use Rattle.entries.proofs.sixteen.MvList.Laws as L′

@@ -1,18 +1,12 @@
 -- A lent list of vectors: sixteen, or number 6 after the prediction's own.
-use mathlib.Core.Bool.{cond}
 use mathlib.Core.List.{List}
 use Prim.Native.Nat.{ℕ}
-use lib.Dec.{eqb}
 use lib.ListN.{length, replicate}
 use Rattle.rfc6386.specs.Vector.{zeroVector}
-use Rattle.rfc6386.specs.Refusal.{orElse, ifDone}
+use Rattle.rfc6386.specs.Refusal.{orElse, ifDone, countRefusal}
 use Rattle.rfc6386.specs.Macroblock.{answered}
 use Rattle.rfc6386.specs.declared.Mv.{Mv}
 use Rattle.rfc6386.specs.declared.Prediction.{Prediction}
-
--- number 6: not so many as there should be
-abbrev pub countRefusal : ℕ → ℕ → ℕ
-countRefusal due n = cond (eqb n due) 0 6
 
 -- a lent list of vectors as sixteen, zeros where it has not so many
 unfoldable pub sixteenOf : List Mv → List Mv

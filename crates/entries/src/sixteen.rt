@@ -1,7 +1,9 @@
 // A lent list of vectors, read as sixteen.
 ghost use mathlib.Core.Path.{_≡_};
 ghost use lib.ListN.{length};
-ghost use Rattle.entries.specs.Lists.{countRefusal, sixteenOf};
+ghost use Rattle.rfc6386.specs.Refusal.{countRefusal};
+ghost use Rattle.entries.specs.Lists.{sixteenOf};
+use numbers::VECTORS;
 use rfc6386::Mv;
 
 // A list as sixteen vectors, and 0; or zeros, and 6.
@@ -37,7 +39,7 @@ pub fn sixteen_mvs(mvs: &[Mv]) -> MvList
         };
     } else {
         return MvList {
-            number: 6,
+            number: VECTORS,
             mvs: [Mv { row: 0, col: 0 }; 16],
         };
     }

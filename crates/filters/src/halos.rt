@@ -6,20 +6,21 @@ ghost use lib.ListN.{length};
 ghost use Rattle.rfc6386.specs.Filter as filter;
 ghost use Rattle.rfc6386.specs.Picture.{haloBlock};
 ghost use Rattle.rfc6386.specs.Block.{interpolated, filtered4, filtered8, filtered16};
-use crate::rect::Spot;
-use crate::rect::Window;
-use crate::rect::copy_rect;
-use crate::step::weigh_at;
-use crate::strips::filter_strips;
-use crate::taps::taps_of;
-use crate::tile::filter_tile;
-use crate::way::Way;
-use crate::wide::filter_wide;
+use fours::tile::filter_tile;
+use numbers::CODE;
 use rfc6386::Block4;
 use rfc6386::Block8;
 use rfc6386::Block16;
 use rfc6386::FilterSet;
 use rfc6386::Sample;
+use sixteens::strips::filter_strips;
+use sixteens::wide::filter_wide;
+use steps::rect::Spot;
+use steps::rect::Window;
+use steps::rect::copy_rect;
+use steps::step::weigh_at;
+use steps::taps::taps_of;
+use steps::way::Way;
 
 pub fn clamp255(v: i32) -> u8
     ensures { λ r. ⌜ r ≡ filter.clamp255 v ⌝ }
@@ -39,7 +40,7 @@ pub fn interp(set: FilterSet, k: usize, support: &[u8; 6]) -> Sample
 {
     if 7 < k {
         return Sample {
-            number: 5,
+            number: CODE,
             sample: 0,
         };
     }
@@ -105,13 +106,13 @@ pub fn sixtap_2d(halo: &[u8; 81], mx: usize, my: usize, set: FilterSet) -> Block
 {
     if 7 < mx {
         return Block4 {
-            number: 5,
+            number: CODE,
             samples: [0u8; 16],
         };
     }
     if 7 < my {
         return Block4 {
-            number: 5,
+            number: CODE,
             samples: [0u8; 16],
         };
     }
@@ -174,13 +175,13 @@ pub fn sixtap_mb_chroma(halo: &[u8; 169], mx: usize, my: usize, set: FilterSet) 
 {
     if 7 < mx {
         return Block8 {
-            number: 5,
+            number: CODE,
             samples: [0u8; 64],
         };
     }
     if 7 < my {
         return Block8 {
-            number: 5,
+            number: CODE,
             samples: [0u8; 64],
         };
     }
@@ -211,13 +212,13 @@ pub fn sixtap_mb_luma(halo: &[u8; 441], mx: usize, my: usize, set: FilterSet) ->
 {
     if 7 < mx {
         return Block16 {
-            number: 5,
+            number: CODE,
             samples: [0u8; 256],
         };
     }
     if 7 < my {
         return Block16 {
-            number: 5,
+            number: CODE,
             samples: [0u8; 256],
         };
     }

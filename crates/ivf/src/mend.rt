@@ -10,6 +10,8 @@ use crate::bytes::read2;
 use crate::bytes::read4;
 use crate::frames::pass;
 use crate::output::write_mended;
+use numbers::RECORDING;
+use numbers::ROOM;
 
 // DKIF.
 fn is_marked(file: &[u8]) -> bool
@@ -71,10 +73,10 @@ pub fn mend(file: &[u8], out: &mut [u8]) -> Mended
     ensures { λ r. ⌜ Mends (now (file .entry)) (now (out .entry)) r (now (out .exit)) ⌝ }
 {
     if not_ivf(file) {
-        return refuse(15);
+        return refuse(RECORDING);
     }
     if no_room(file, out.len()) {
-        return refuse(7);
+        return refuse(ROOM);
     }
     let frames = write_mended(file, out);
     let end = frames.end;

@@ -14,9 +14,9 @@ use Rattle.rfc6386.specs.Laws.Refusals.{Sized, Accepts, accepts, luma-start, u-
 use Rattle.rfc6386.specs.declared.Mv.{Mv}
 use Rattle.rfc6386.specs.declared.Sizes.{Sizes}
 use Rattle.rfc6386.specs.declared.ReconstructedMb.{ReconstructedMb}
-use Rattle.prediction.specs.Places.{planeAt, Accepted, Alike}
+use Rattle.blocks.specs.Places.{planeAt, Accepted, Alike}
 use Rattle.prediction.specs.Tiles.{Starts}
-use Rattle.prediction.specs.declared.place.Place.{Place}
+use Rattle.blocks.specs.declared.place.Place.{Place}
 
 -- number 0 was given
 pub accepted : {ref : Reference} {col row n : ℕ} → n ≡ refusal ref col row → n ≡ 0 → Accepts ref col row

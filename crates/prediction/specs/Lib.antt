@@ -1,3 +1,2 @@
 -- What private functions of this crate promise each other.
-pub mod Places
 pub mod Tiles

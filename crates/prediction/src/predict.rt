@@ -4,20 +4,21 @@ ghost use mathlib.Core.Path.{_≡_};
 ghost use mathlib.Core.Bool.{cond, _&&_};
 ghost use Rattle.rfc6386.specs.Vector.{fullPixel, isWhole};
 ghost use Rattle.rfc6386.specs.Macroblock.{lent, whole, split, wholePixel, noSamples};
-use crate::block::block_of_16;
-use crate::chroma::blocks_of_8;
-use crate::place::place_of;
-use crate::refusal::or_else;
-use crate::refusal::refusal;
 use crate::split::split_chroma;
 use crate::split::split_luma;
-use crate::square::pixels_of_8;
-use crate::square::pixels_of_16;
+use blocks::block::block_of_16;
+use blocks::chroma::blocks_of_8;
+use blocks::place::place_of;
+use blocks::square::pixels_of_8;
+use blocks::square::pixels_of_16;
 use motion_vectors::are_one;
 use motion_vectors::chroma_vector;
 use motion_vectors::luma_vector;
 use motion_vectors::quarter_vectors;
 use motion_vectors::whole_pixel_fraction_is_zero;
+use numbers::FRACTION;
+use refusals::or_else;
+use refusals::refusal;
 use rfc6386::FilterSet;
 use rfc6386::Mv;
 use rfc6386::Prediction;
@@ -108,10 +109,10 @@ fn fraction_left(luma: Mv, chroma: Mv) -> u32
     ensures { λ r. ⌜ r ≡ cond (isWhole luma && isWhole chroma) 0 8 ⌝ }
 {
     if !whole_pixel_fraction_is_zero(luma) {
-        return 8;
+        return FRACTION;
     }
     if !whole_pixel_fraction_is_zero(chroma) {
-        return 8;
+        return FRACTION;
     }
     0
 }

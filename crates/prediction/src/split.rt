@@ -6,16 +6,16 @@ ghost use lib.ListN.{getD};
 ghost use Rattle.rfc6386.specs.Vector as vector;
 ghost use Rattle.rfc6386.specs.Picture as picture;
 ghost use Rattle.rfc6386.specs.Macroblock as macroblock;
-ghost use Rattle.prediction.specs.Places.{planeAt, Alike};
+ghost use Rattle.blocks.specs.Places.{planeAt, Alike};
 ghost use Rattle.prediction.specs.Tiles.{Starts};
-use crate::block::tile_into;
-use crate::chroma::Chroma;
-use crate::chroma::pair_into;
-use crate::place::Place;
-use filters::rect::Spot;
+use blocks::block::tile_into;
+use blocks::chroma::Chroma;
+use blocks::chroma::pair_into;
+use blocks::place::Place;
 use motion_vectors::luma_vector;
 use rfc6386::FilterSet;
 use rfc6386::Mv;
+use steps::rect::Spot;
 
 // The place x columns and y rows further on.
 fn from(at: Place, x: usize, y: usize) -> Place

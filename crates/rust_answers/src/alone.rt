@@ -1,7 +1,5 @@
 // Records of functions that take no plane. `r` is a record after its first byte.
 use check::same;
-use filters::BILINEAR_FILTERS;
-use filters::SIXTAP_FILTERS;
 use filters::clamp255;
 use motion_vectors::chroma_idx_for_luma_subblock;
 use motion_vectors::whole_pixel_fraction_is_zero;
@@ -11,11 +9,13 @@ use shims::bytes::mv_of;
 use shims::bytes::part;
 use shims::bytes::signed;
 use shims::bytes::word;
-use shims::steps::shim_interp;
-use shims::steps::shim_sixtap;
+use shims::filtering::shim_interp;
+use shims::filtering::shim_sixtap;
 use shims::vectors::shim_split_chroma;
 use shims::vectors::shim_vector;
 use std::num::wrapping_add_usize;
+use steps::BILINEAR_FILTERS;
+use steps::SIXTAP_FILTERS;
 use versions::filter_set_for_version;
 
 fn vector(which: u8, r: &[u8]) -> bool {

@@ -4,6 +4,6 @@
 // names no function.
 pub mod bytes;
 pub mod codes;
+pub mod filtering;
 pub mod planes;
-pub mod steps;
 pub mod vectors;

@@ -17,7 +17,7 @@ use Rattle.rfc6386.specs.Vector.{Lowering, fullPixel, lumaVector, chromaVector,
 use Rattle.rfc6386.specs.Filter.{versionSet}
 use Rattle.rfc6386.specs.Raster.{tab}
 use Rattle.rfc6386.specs.Picture.{image, blockBy}
-use Rattle.rfc6386.specs.Refusal.{orElse, ifDone}
+use Rattle.rfc6386.specs.Refusal.{orElse, ifDone, countRefusal, codeRefusal, roomRefusal}
 use Rattle.rfc6386.specs.Macroblock.{Reference, planeY, planeU, refusal, wholeSamples, splitSamples, noSamples, answered, whole, split}
 use Rattle.rfc6386.specs.Version.{reservedVersion, wholeByVersion, splitByVersion}
 use Rattle.rfc6386.specs.Telling.{sixteen, tellingSample}
@@ -28,8 +28,7 @@ use Rattle.rfc6386.specs.Laws.Refusals.{done}
 use Rattle.rfc6386.specs.Laws.Blocks.{length-block}
 use Rattle.rfc6386.specs.Laws.Merging.{zeros-bytes}
 use Rattle.rfc6386.specs.Laws.Versions.{versionLowering, whole-meant, split-meant, whole-reserved, split-reserved}
-use Rattle.entries.specs.Lists.{countRefusal}
-use Rattle.threshowl.specs.Boundary.{setOf, flagOf, codeRefusal, vectorAt, vectorsOf, int16, flat, roomRefusal, callNumber, Left}
+use Rattle.threshowl.specs.Boundary.{setOf, flagOf, vectorAt, vectorsOf, int16, flat, callNumber, Left}
 use Rattle.threshowl.proofs.Laws.{left-as, left-refused, codes-as, one-outcome}
 use Rattle.rfc6386.specs.declared.Mv.{Mv}
 use Rattle.rfc6386.specs.declared.FilterSet.{FilterSet}

@@ -19,14 +19,13 @@ use Rattle.signed.specs.Held.{Held, nat-at, lit-neg, sub, sub-need}
 use Rattle.rfc6386.specs.Number.{wrap16}
 use Rattle.rfc6386.specs.Vector.{Lowering}
 use Rattle.rfc6386.specs.Filter.{versionProfile}
-use Rattle.rfc6386.specs.Refusal.{orElse}
+use Rattle.rfc6386.specs.Refusal.{orElse, countRefusal, roomRefusal}
 use Rattle.rfc6386.specs.Version.{reservedVersion, byVersion}
 use Rattle.rfc6386.specs.Promises.{one-result}
 use Rattle.rfc6386.specs.Laws.Vectors.{wrap-in, wrap-high}
 use Rattle.rfc6386.specs.Laws.Refusals.{done, refused}
 use Rattle.rfc6386.specs.Laws.Versions.{refused-by}
-use Rattle.entries.specs.Lists.{countRefusal}
-use Rattle.threshowl.specs.Boundary.{setOf, flat, roomRefusal, callNumber, Left}
+use Rattle.threshowl.specs.Boundary.{setOf, flat, callNumber, Left}
 use Rattle.rfc6386.specs.declared.FilterSet.{FilterSet}
 use Rattle.rfc6386.specs.declared.FilterSet.the-variants.{Bilinear}
 use Rattle.rfc6386.specs.declared.Profile.{Profile}

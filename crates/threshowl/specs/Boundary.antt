@@ -8,8 +8,7 @@ use lib.ListN.{length, getD}
 use lib.IntN.{ℤ, pos}
 use Rattle.rfc6386.specs.Number.{wrap16}
 use Rattle.rfc6386.specs.Raster.{tab}
-use Rattle.rfc6386.specs.Refusal.{orElse, ifDone}
-use Rattle.entries.specs.Lists.{countRefusal}
+use Rattle.rfc6386.specs.Refusal.{orElse, ifDone, codeRefusal, countRefusal, roomRefusal}
 use Rattle.rfc6386.specs.declared.Mv.{Mv}
 use Rattle.rfc6386.specs.declared.FilterSet.{FilterSet}
 use Rattle.rfc6386.specs.declared.FilterSet.the-variants.{Sixtap, Bilinear}
@@ -17,13 +16,10 @@ use Rattle.rfc6386.specs.declared.ReconstructedMb.{ReconstructedMb}
 use Rattle.rfc6386.specs.declared.Prediction.{Prediction}
 
 -- ---- codes
--- a filter's code: six-tap has 0 and bilinear 1; every other gets number 5
+-- a filter's code: six-tap has 0 and bilinear 1
 abbrev pub setOf : ℕ → FilterSet
 setOf zero = Sixtap
 setOf (suc n) = Bilinear
-
-abbrev pub codeRefusal : ℕ → ℕ
-codeRefusal code = cond (ltb 1 code) 5 0
 
 -- flag 0 is off, every other on
 abbrev pub flagOf : ℕ → Bool
@@ -51,10 +47,6 @@ vectorsOf b = tab 16 (vectorAt b)
 -- the samples of a macroblock one after the other
 abbrev pub flat : ReconstructedMb → List ℕ
 flat s = s .y ++ (s .u ++ s .v)
-
--- number 7: an output that has not 384 bytes
-abbrev pub roomRefusal : ℕ → ℕ
-roomRefusal n = cond (eqb n 384) 0 7
 
 -- a call's number: the prediction's own, then that of its codes, then 7
 abbrev pub callNumber : Prediction → ℕ → List ℕ → ℕ

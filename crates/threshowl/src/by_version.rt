@@ -4,12 +4,13 @@
 ghost use lib.ListN.{length};
 ghost use Rattle.rfc6386.specs.Macroblock.{lent};
 ghost use Rattle.rfc6386.specs.Version.{wholeByVersion, splitByVersion};
-ghost use Rattle.entries.specs.Lists.{countRefusal};
+ghost use Rattle.rfc6386.specs.Refusal.{countRefusal};
 ghost use Rattle.threshowl.specs.Boundary.{flagOf, vectorsOf, Left};
 use crate::boundary::split_into;
 use crate::boundary::whole_into;
-use crate::refusals::count_refusal;
 use crate::vectors::mvs_of_bytes;
+use numbers::VERSION;
+use refusals::count_refusal;
 use rfc6386::Mv;
 use rfc6386::Sizes;
 use versions::lowers_luma;
@@ -37,7 +38,7 @@ pub extern "C" fn threshowl_predict_whole_by_version(
 {
     let profile = profile_for_version(version);
     if profile.reserved {
-        return 10;
+        return VERSION;
     }
     let set = profile.set;
     let sizes = Sizes {
@@ -88,7 +89,7 @@ pub extern "C" fn threshowl_predict_split_by_version(
 {
     let profile = profile_for_version(version);
     if profile.reserved {
-        return 10;
+        return VERSION;
     }
     let set = profile.set;
     let sizes = Sizes {

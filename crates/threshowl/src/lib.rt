@@ -4,5 +4,4 @@ pub mod by_version;
 mod output;
 pub mod pictures;
 pub mod recordings;
-mod refusals;
 mod vectors;

@@ -4,6 +4,7 @@ ghost use mathlib.Core.Path.{_≡_};
 ghost use Rattle.rfc6386.specs.Filter.{versionSet, versionProfile};
 ghost use Rattle.rfc6386.specs.Macroblock.{lent};
 ghost use Rattle.rfc6386.specs.Version.{inMode, wholeByVersion, splitByVersion};
+use numbers::VERSION;
 use prediction::predict_inter_mb_lowered;
 use prediction::predict_split_mv_lowered;
 use prediction::refused;
@@ -74,7 +75,7 @@ pub fn predict_inter_mb_by_version(
 {
     let profile = profile_for_version(version);
     if profile.reserved {
-        return refused(10);
+        return refused(VERSION);
     }
     let set = profile.set;
     predict_inter_mb_lowered(
@@ -107,7 +108,7 @@ pub fn predict_split_mv_by_version(
 {
     let profile = profile_for_version(version);
     if profile.reserved {
-        return refused(10);
+        return refused(VERSION);
     }
     let set = profile.set;
     predict_split_mv_lowered(

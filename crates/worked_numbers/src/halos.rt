@@ -1,7 +1,7 @@
 // The halo of a macroblock's luma at column 2 and row 2, with the vector zero: 21 samples a side fit exactly, and of 20 the last is repeated.
 use crate::say::every;
 use crate::say::text;
-use prediction::fetch_luma_mb_halo;
+use blocks::fetch_luma_mb_halo;
 use rfc6386::Mv;
 
 // The column, or else the row, of sample i of a plane with so many columns.

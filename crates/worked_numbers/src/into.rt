@@ -3,7 +3,7 @@ use crate::say::labelled;
 use crate::say::not_zero;
 use crate::say::outcome;
 use crate::say::text;
-use prediction::filter_block_4x4_into;
+use blocks::filter_block_4x4_into;
 use rfc6386::FilterSet;
 use rfc6386::Mv;
 

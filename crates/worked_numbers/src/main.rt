@@ -3,12 +3,12 @@
 // samples, or of the bytes of its destination, are not 0: every plane here shows the one value 200, so that an accepted call has all of them
 // and a refused one has none. What is expected, stdout, was worked out from the paper.
 mod by_version;
+mod fractions;
 mod halos;
 mod into;
 mod macroblocks;
 mod planes;
 mod say;
-mod steps;
 mod vectors;
 
 fn main() {
@@ -17,6 +17,6 @@ fn main() {
     halos::all();
     planes::all();
     into::all();
-    steps::all();
+    fractions::all();
     vectors::all();
 }

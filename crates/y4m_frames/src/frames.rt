@@ -13,6 +13,10 @@ use crate::planes::sizes_of;
 use crate::rows::copy;
 use crate::rows::crop_plane;
 use crate::rows::pad_plane;
+use numbers::CUT;
+use numbers::MARK;
+use numbers::ROOM;
+use numbers::SIZE;
 use y4m_header::words::same;
 
 fn marked(file: &[u8]) -> bool
@@ -108,21 +112,21 @@ pub fn read_frame(file: &[u8], width: usize, height: usize, out: &mut [u8]) -> F
     ensures { λ r. ⌜ Reads (now (file .entry)) width height (now (out .entry)) r (now (out .exit)) ⌝ }
 {
     if !are_sizes(width, height) {
-        return stop(1);
+        return stop(SIZE);
     }
     if file.len() == 0 {
         return stop(0);
     }
     if !marked(file) {
-        return stop(13);
+        return stop(MARK);
     }
     let s = sizes_of(width, height);
     let n = frame_length(s);
     if file.len() < n {
-        return stop(14);
+        return stop(CUT);
     }
     if out.len() < padded_samples(s) {
-        return stop(7);
+        return stop(ROOM);
     }
     pad_frame(file, s, out);
     Frame {
@@ -135,15 +139,15 @@ pub fn write_frame(frame: &[u8], width: usize, height: usize, out: &mut [u8]) ->
     ensures { λ r. ⌜ Writes (now (frame .entry)) width height (now (out .entry)) r (now (out .exit)) ⌝ }
 {
     if !are_sizes(width, height) {
-        return stop(1);
+        return stop(SIZE);
     }
     let s = sizes_of(width, height);
     if frame.len() < padded_samples(s) {
-        return stop(14);
+        return stop(CUT);
     }
     let n = frame_length(s);
     if out.len() < n {
-        return stop(7);
+        return stop(ROOM);
     }
     crop_frame(frame, s, out);
     Frame {

@@ -6,6 +6,7 @@ ghost use Rattle.y4m_header.specs.Words.{words};
 ghost use Rattle.y4m_header.specs.HeaderLine.{size, broken, tellWidth, tellHeight, tellColour, tell, told, heading, headerOf, refused};
 use crate::Header;
 use crate::words::same;
+use numbers::HEADER;
 
 // What the parameters tell so far. A size of 0 is not told yet.
 pub struct Told {
@@ -165,7 +166,7 @@ fn refuse() -> Header
     ensures { λ r. ⌜ r ≡ refused ⌝ }
 {
     Header {
-        number: 12,
+        number: HEADER,
         width: 0,
         height: 0,
         taken: 0,

@@ -40,12 +40,12 @@ use denote.Triple.Walked.{walkOf, walked}
 use borrow.Author.Tests.{eq-eqb}
 use Rattle.rfc6386.specs.Vector.{zeroVector}
 use Rattle.rfc6386.specs.Raster.{tab}
-use Rattle.rfc6386.specs.Refusal.{ifDone}
+use Rattle.rfc6386.specs.Refusal.{ifDone, countRefusal}
 use Rattle.rfc6386.specs.Laws.Raster.{is-tab}
 use Rattle.rfc6386.specs.declared.Mv.{Mv}
 use Rattle.rfc6386.proofs.Mv as E
 use Rattle.rfc6386.proofs.Mv.Laws as E′
-use Rattle.entries.specs.Lists.{countRefusal, sixteenOf}
+use Rattle.entries.specs.Lists.{sixteenOf}
 use Rattle.entries.specs.declared.sixteen.MvList.{MvList}
 use Rattle.entries.proofs.Thin.{dropped, ends, meets}
 use Rattle.entries.proofs.sixteen.MvList as S

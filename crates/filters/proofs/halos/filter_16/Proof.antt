@@ -5,7 +5,7 @@ use mathlib.Core.List.{List}
 use native.Mathlib.Omega.{arith}
 use Prim.Native.Nat.{ℕ}
 use Rattle.rfc6386.specs.Picture.{haloBlock}
-use Rattle.filters.specs.Laws.Windows.{window-whole, block-as}
+use Rattle.steps.specs.Laws.Windows.{window-whole, block-as}
 use Rattle.filters.proofs.halos.filter_16.Statement.{statement}
 use Rattle.filters.proofs.halos.filter_16.Tie as tie
 

@@ -5,7 +5,7 @@ use mathlib.Core.List.{List}
 use native.Mathlib.Omega.{arith}
 use Prim.Native.Nat.{ℕ}
 use Rattle.rfc6386.specs.Picture.{haloBlock}
-use Rattle.filters.specs.Laws.Windows.{window-whole, block-as, put-whole, length-halo-block}
+use Rattle.steps.specs.Laws.Windows.{window-whole, block-as, put-whole, length-halo-block}
 use Rattle.filters.proofs.halos.filter_4.Statement.{statement}
 use Rattle.filters.proofs.halos.filter_4.Tie as tie
 

@@ -9,10 +9,10 @@ use Rattle.rfc6386.specs.Raster.{written}
 use Rattle.rfc6386.specs.Picture.{haloBlock}
 use Rattle.rfc6386.specs.Laws.Raster.{length-written}
 use Rattle.rfc6386.specs.declared.FilterSet.{FilterSet}
-use Rattle.filters.specs.Window.{windowSample, Strips}
-use Rattle.filters.specs.Laws.Copying.{either, written-in, written-off}
-use Rattle.filters.specs.Laws.Windows.{raster-of, window-whole, window-block, block-as}
-use Rattle.filters.proofs.Samples.{lower-sample}
+use Rattle.steps.specs.Window.{windowSample, Strips}
+use Rattle.steps.specs.Laws.Copying.{either, written-in, written-off}
+use Rattle.steps.specs.Laws.Windows.{raster-of, window-whole, window-block, block-as}
+use Rattle.steps.specs.Laws.Samples.{lower-sample}
 use Rattle.filters.proofs.halos.filter_8.Statement.{statement}
 use Rattle.filters.proofs.halos.filter_8.Tie as tie
 

@@ -9,7 +9,7 @@ use native.Mathlib.Omega.{arith}
 use Rattle.rfc6386.specs.Raster.{tab}
 use Rattle.rfc6386.specs.Block.{interpolated}
 use Rattle.rfc6386.specs.Laws.Raster.{is-tab}
-use Rattle.filters.proofs.Bytes.{a-byte}
+use Rattle.steps.specs.Laws.Bytes.{a-byte}
 use Rattle.filters.proofs.halos.interp.Statement.{statement}
 use Rattle.filters.proofs.halos.interp.Tie as tie
 

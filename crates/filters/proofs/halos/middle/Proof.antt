@@ -7,9 +7,9 @@ use native.Mathlib.Omega.{arith}
 use lib.ListN.{length, getD}
 use Rattle.rfc6386.specs.Picture.{haloBlock}
 use Rattle.rfc6386.specs.Laws.Raster.{row-fits, written-all}
-use Rattle.filters.specs.Rows.{Room, Held}
-use Rattle.filters.specs.Laws.Windows.{window-whole, window-block}
-use Rattle.filters.proofs.Samples.{middle-sample}
+use Rattle.steps.specs.Rows.{Room, Held}
+use Rattle.steps.specs.Laws.Windows.{window-whole, window-block}
+use Rattle.steps.specs.Laws.Samples.{middle-sample}
 use Rattle.filters.proofs.halos.middle.Statement.{statement}
 use Rattle.filters.proofs.halos.middle.Tie as tie
 

@@ -5,8 +5,8 @@ use native.Mathlib.Omega.{arith}
 use Rattle.rfc6386.specs.Picture.{image, block}
 use Rattle.rfc6386.specs.Macroblock.{lent, whole, wholeSamples}
 use Rattle.rfc6386.specs.Laws.Refusals.{Accepts, refused-is, done-is}
-use Rattle.prediction.specs.Places.{planeAt}
-use Rattle.prediction.specs.declared.chroma.Chroma.{Chroma}
+use Rattle.blocks.specs.Places.{planeAt}
+use Rattle.blocks.specs.declared.chroma.Chroma.{Chroma}
 use Rattle.prediction.proofs.Macroblock.{accepted, room, luma-at, u-at, v-at, alike, three, moved}
 use Rattle.prediction.proofs.predict.predict_inter_mb_lowered.Statement.{statement}
 use Rattle.prediction.proofs.predict.predict_inter_mb_lowered.Tie as tie

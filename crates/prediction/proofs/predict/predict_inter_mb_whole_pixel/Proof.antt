@@ -7,7 +7,7 @@ use Prim.Native.Nat.{ℕ}
 use Rattle.rfc6386.specs.Vector.{fullPixel, isWhole}
 use Rattle.rfc6386.specs.Picture.{image, pixels}
 use Rattle.rfc6386.specs.Refusal.{orElse}
-use Rattle.prediction.specs.Places.{planeAt}
+use Rattle.blocks.specs.Places.{planeAt}
 use Rattle.rfc6386.specs.Macroblock.{lent, refusal, fractionLeft, wholePixel, pixelSamples}
 use Rattle.rfc6386.specs.Laws.Refusals.{Accepts, or-else-zero, refused-is, done-is}
 use Rattle.rfc6386.specs.declared.Mv.{Mv}

@@ -11,9 +11,9 @@ use Rattle.rfc6386.specs.Laws.Refusals.{Accepts, refused-is, done-is}
 use Rattle.rfc6386.specs.Laws.Merging.{blockBy-ext}
 use Rattle.rfc6386.specs.declared.Mv.{Mv}
 use Rattle.rfc6386.specs.declared.FilterSet.{FilterSet}
-use Rattle.prediction.specs.Places.{planeAt}
-use Rattle.prediction.specs.declared.chroma.Chroma.{Chroma}
-use Rattle.prediction.specs.declared.place.Place.{Place}
+use Rattle.blocks.specs.Places.{planeAt}
+use Rattle.blocks.specs.declared.chroma.Chroma.{Chroma}
+use Rattle.blocks.specs.declared.place.Place.{Place}
 use Rattle.prediction.proofs.Macroblock.{accepted, room, luma-starts, u-starts, v-starts, alike, three, quarter-of}
 use Rattle.prediction.proofs.predict.predict_split_mv_lowered.Statement.{statement}
 use Rattle.prediction.proofs.predict.predict_split_mv_lowered.Tie as tie

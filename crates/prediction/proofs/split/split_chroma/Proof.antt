@@ -4,10 +4,10 @@ use native.Mathlib.Omega.{arith}
 use Prim.Native.Nat.{_-_}
 use Rattle.rfc6386.specs.Vector.{sent}
 use Rattle.rfc6386.specs.Picture.{image, block}
-use Rattle.prediction.specs.Places.{planeAt, Accepted}
-use Rattle.prediction.specs.declared.place.Place.{Place}
+use Rattle.blocks.specs.Places.{planeAt, Accepted}
+use Rattle.blocks.specs.declared.place.Place.{Place}
 use Rattle.prediction.proofs.Tiles.{two, Tiled, tiled-none, tiled-more, tiled-all}
-use Rattle.prediction.proofs.Windows.{alike-from}
+use Rattle.blocks.specs.Laws.{alike-from}
 use Rattle.prediction.proofs.split.split_chroma.Statement.{statement}
 use Rattle.prediction.proofs.split.split_chroma.Tie as tie
 

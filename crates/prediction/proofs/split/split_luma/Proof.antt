@@ -6,8 +6,8 @@ use Prim.Native.Nat.{_-_}
 use Rattle.rfc6386.specs.Vector.{fullPixel, lumaVector, sent}
 use Rattle.rfc6386.specs.Picture.{image, block}
 use Rattle.rfc6386.specs.declared.Mv.{Mv}
-use Rattle.prediction.specs.Places.{planeAt, Accepted}
-use Rattle.prediction.specs.declared.place.Place.{Place}
+use Rattle.blocks.specs.Places.{planeAt, Accepted}
+use Rattle.blocks.specs.declared.place.Place.{Place}
 use Rattle.prediction.proofs.Tiles.{four, Tiled, tiled-none, tiled-more, tiled-all}
 use Rattle.prediction.proofs.split.split_luma.Statement.{statement}
 use Rattle.prediction.proofs.split.split_luma.Tie as tie

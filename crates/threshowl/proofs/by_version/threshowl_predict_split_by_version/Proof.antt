@@ -11,7 +11,7 @@ use Rattle.rfc6386.specs.Laws.Versions.{in-mode, predicted-by}
 use Rattle.rfc6386.specs.declared.Mv.{Mv}
 use Rattle.rfc6386.specs.declared.FilterSet.{FilterSet}
 use Rattle.rfc6386.specs.declared.Prediction.{Prediction}
-use Rattle.entries.specs.Lists.{countRefusal}
+use Rattle.rfc6386.specs.Refusal.{countRefusal}
 use Rattle.threshowl.specs.Boundary.{flagOf, vectorsOf}
 use Rattle.threshowl.proofs.Laws.{left-as, left-reserved}
 use Rattle.threshowl.proofs.by_version.threshowl_predict_split_by_version.Statement.{statement}

@@ -1,0 +1,16 @@
+-- `block::block_of_4` is the block, put over all of sixteen samples. Assumes nothing.
+use borrow.Author.Needs.{needs}
+use mathlib.Core.Path.{refl, _∙_}
+use native.Mathlib.Omega.{arith}
+use Rattle.rfc6386.specs.Laws.Blocks.{length-block}
+use Rattle.steps.specs.Laws.Windows.{put-whole}
+use Rattle.blocks.proofs.block.block_of_4.Statement.{statement}
+use Rattle.blocks.proofs.block.block_of_4.Tie as tie
+
+pub block-of-4-spec : {M : Type 1} → statement M
+block-of-4-spec =
+    tie.close
+    (tie.spec
+    (λ c. search needs)
+    (λ c κs. (c .before .before .pre, record { some = omega arith; across = omega arith; down = λ r h. omega arith }))
+    (λ c. c .before .tile-into .ensures ∙ put-whole 4 _ _ refl (length-block 4 _ _ _ _ _)))

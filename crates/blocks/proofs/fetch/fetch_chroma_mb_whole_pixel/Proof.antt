@@ -1,0 +1,20 @@
+-- `fetch_chroma_mb_whole_pixel` gives zeros by the plane's number, or the chroma at whole pixels.
+use borrow.Author.Needs.{needs}
+use Rattle.rfc6386.specs.Block.{pixels8}
+use Rattle.rfc6386.specs.Laws.Refusals.{shown-done, shown-refused}
+use Rattle.rfc6386.specs.declared.Block8.{Block8}
+use Rattle.blocks.proofs.fetch.fetch_chroma_mb_whole_pixel.Statement.{statement}
+use Rattle.blocks.proofs.fetch.fetch_chroma_mb_whole_pixel.Tie as tie
+
+returns : tie.Need-returns
+unfolding pixels8
+returns c = shown-refused {A = Block8} (λ n l. record { number = n; samples = l }) 64 (c .before .plane-refusal .ensures) _ (c .if1 .taken)
+
+returns-2 : tie.Need-returns-2
+unfolding pixels8
+returns-2 c =
+    shown-done {A = Block8} (λ n l. record { number = n; samples = l }) 64 (c .before .before .plane-refusal .ensures) _ (c .before .if1 .left)
+    (c .pixels-of-8 .ensures)
+
+pub fetch-chroma-mb-whole-pixel-spec : {M : Type 1} → statement M
+fetch-chroma-mb-whole-pixel-spec = tie.close (tie.spec (λ c κs. search needs) returns (λ c κs. search needs) returns-2)

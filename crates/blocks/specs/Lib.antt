@@ -1,0 +1,3 @@
+-- What functions of this crate and of those above it promise each other.
+pub mod Places
+pub mod Laws

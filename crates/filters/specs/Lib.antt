@@ -1,5 +1,0 @@
--- What private functions of this crate and of `prediction` promise each other, and laws of it.
-pub mod Taps
-pub mod Rows
-pub mod Window
-pub mod Laws

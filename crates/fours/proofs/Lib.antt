@@ -1,0 +1,4 @@
+-- Laws that several proofs of this crate cite.
+pub mod Gathering
+pub mod Passes
+pub mod Pairs

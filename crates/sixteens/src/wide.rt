@@ -1,0 +1,185 @@
+// A block of 16 by 16 samples out of a window of 21 by 21: its rows are long enough for vector code as they stand.
+ghost use mathlib.Core.Path.{_≡_};
+ghost use Prim.Native.Nat.{_+_, _*_, _<_, _≤_};
+ghost use lib.ListN.{length, getD};
+ghost use Rattle.rfc6386.specs.Raster.{raster};
+ghost use Rattle.rfc6386.specs.Picture.{stepAt, haloBlock};
+ghost use Rattle.steps.specs.Rows.{laidTwice, Held};
+ghost use Rattle.steps.specs.Taps.{signedTaps, Small, Middle, twoTaps};
+ghost use Rattle.steps.specs.Window.{windowList, windowBlock, mixAt};
+use rfc6386::FilterSet;
+use steps::lines::first_line;
+use steps::lines::last_line;
+use steps::lines::line;
+use steps::lines::mix_line;
+use steps::rect::Window;
+use steps::step::mix_at;
+use steps::taps::Taps;
+use steps::taps::taps_of;
+use steps::way::Way;
+
+// Both passes of six taps.
+fn two(src: &[u8], window: Window, mx: usize, my: usize) -> [u8; 256]
+    requires { ⌜ Held (length (now src)) (window .at) (window .pitch) 21 21 ⌝ }
+    requires { ⌜ mx < 8 ⌝ }
+    requires { ⌜ my < 8 ⌝ }
+    ensures { λ r. ⌜ r ≡ haloBlock 16 FilterSet.Sixtap (windowList 21 (now (src .entry)) (window .at) (window .pitch)) mx my ⌝ }
+{
+    let tx = taps_of(FilterSet::Sixtap, mx);
+    let ty = taps_of(FilterSet::Sixtap, my);
+    let mut m = [0u16; 336];
+    let mut r: usize = 0;
+    while r < 21 {
+        first_line(src, window.at + r * window.pitch, 1, &mut m, r * 16, 16, tx);
+        r += 1;
+    }
+    let mut out = [0u8; 256];
+    last_line(&m, 0, 16, &mut out, 0, 256, ty);
+    out
+}
+
+// One pass of six taps, over samples `gap` apart.
+fn pass(src: &[u8], window: Window, gap: usize, t: Taps) -> [u8; 256]
+    requires { ⌜ Small t ⌝ }
+    requires { ⌜ Held (length (now src)) (window .at) (window .pitch) (16 + 5 * gap) 16 ⌝ }
+    ensures { λ s. ⌜ s ≡ raster 16 16 (λ r c. stepAt (signedTaps t) (now (src .entry)) (window .at + r * window .pitch + c) gap) ⌝ }
+{
+    let mut out = [0u8; 256];
+    let mut r: usize = 0;
+    while r < 16 {
+        line(
+            src,
+            window.at + r * window.pitch,
+            gap,
+            &mut out,
+            r * 16,
+            16,
+            t,
+        );
+        r += 1;
+    }
+    out
+}
+
+// Two rows of steps of the two middle taps, eight rows apart: one row alone would not become vector code.
+fn mix_rows(src: &[u8], upper: usize, lower: usize, gap: usize, t: Taps, out: &mut [u8], to: usize)
+    requires { ⌜ Middle t ⌝ }
+    requires { ⌜ upper + 16 + gap ≤ length (now src) ⌝ }
+    requires { ⌜ lower + 16 + gap ≤ length (now src) ⌝ }
+    requires { ⌜ to + 144 ≤ length (now out) ⌝ }
+    ensures { λ _. ⌜ now (out .exit) ≡ laidTwice (now (out .entry)) to 128 16 (λ c. twoTaps t (getD (now (src .entry)) (upper + c) 0) (getD (now (src .entry)) (upper + c + gap) 0)) (λ c. twoTaps t (getD (now (src .entry)) (lower + c) 0) (getD (now (src .entry)) (lower + c + gap) 0)) ⌝ }
+{
+    let mut c: usize = 0;
+    while c < 16 {
+        out[to + c] = mix_at(src, upper + c, gap, t);
+        out[to + 128 + c] = mix_at(src, lower + c, gap, t);
+        c += 1;
+    }
+}
+
+// One pass of two taps, over samples `gap` apart.
+fn mix_pass(src: &[u8], window: Window, gap: usize, t: Taps) -> [u8; 256]
+    requires { ⌜ Middle t ⌝ }
+    requires { ⌜ Held (length (now src)) (window .at) (window .pitch) (16 + gap) 16 ⌝ }
+    ensures { λ s. ⌜ s ≡ raster 16 16 (mixAt t (now (src .entry)) (window .at) (window .pitch) gap) ⌝ }
+{
+    let mut out = [0u8; 256];
+    let mut r: usize = 0;
+    while r < 8 {
+        mix_rows(
+            src,
+            window.at + r * window.pitch,
+            window.at + (r + 8) * window.pitch,
+            gap,
+            t,
+            &mut out,
+            r * 16,
+        );
+        r += 1;
+    }
+    out
+}
+
+// Both passes of two taps. The first makes 17 rows, the ninth of them twice.
+fn mixed(src: &[u8], window: Window, mx: usize, my: usize) -> [u8; 256]
+    requires { ⌜ Held (length (now src)) (window .at) (window .pitch) 21 21 ⌝ }
+    requires { ⌜ mx < 8 ⌝ }
+    requires { ⌜ my < 8 ⌝ }
+    ensures { λ r. ⌜ r ≡ haloBlock 16 FilterSet.Bilinear (windowList 21 (now (src .entry)) (window .at) (window .pitch)) mx my ⌝ }
+{
+    let tx = taps_of(FilterSet::Bilinear, mx);
+    let ty = taps_of(FilterSet::Bilinear, my);
+    let at = window.at + 2 * window.pitch + 2;
+    let mut m = [0u8; 272];
+    let mut r: usize = 0;
+    while r < 9 {
+        mix_rows(
+            src,
+            at + r * window.pitch,
+            at + (r + 8) * window.pitch,
+            1,
+            tx,
+            &mut m,
+            r * 16,
+        );
+        r += 1;
+    }
+    let mut out = [0u8; 256];
+    mix_line(&m, 0, 16, &mut out, 0, 256, ty);
+    out
+}
+
+fn six_wide(src: &[u8], window: Window, mx: usize, my: usize) -> [u8; 256]
+    requires { ⌜ Held (length (now src)) (window .at) (window .pitch) 21 21 ⌝ }
+    requires { ⌜ mx < 8 ⌝ }
+    requires { ⌜ my < 8 ⌝ }
+    ensures { λ r. ⌜ r ≡ haloBlock 16 FilterSet.Sixtap (windowList 21 (now (src .entry)) (window .at) (window .pitch)) mx my ⌝ }
+{
+    if mx == 0 {
+        let columns = Window {
+            at: window.at + 2,
+            pitch: window.pitch,
+        };
+        return pass(src, columns, window.pitch, taps_of(FilterSet::Sixtap, my));
+    }
+    if my == 0 {
+        let rows = Window {
+            at: window.at + 2 * window.pitch,
+            pitch: window.pitch,
+        };
+        return pass(src, rows, 1, taps_of(FilterSet::Sixtap, mx));
+    }
+    two(src, window, mx, my)
+}
+
+fn mixed_wide(src: &[u8], window: Window, mx: usize, my: usize) -> [u8; 256]
+    requires { ⌜ Held (length (now src)) (window .at) (window .pitch) 21 21 ⌝ }
+    requires { ⌜ mx < 8 ⌝ }
+    requires { ⌜ my < 8 ⌝ }
+    ensures { λ r. ⌜ r ≡ haloBlock 16 FilterSet.Bilinear (windowList 21 (now (src .entry)) (window .at) (window .pitch)) mx my ⌝ }
+{
+    let middle = Window {
+        at: window.at + 2 * window.pitch + 2,
+        pitch: window.pitch,
+    };
+    if mx == 0 {
+        return mix_pass(src, middle, window.pitch, taps_of(FilterSet::Bilinear, my));
+    }
+    if my == 0 {
+        return mix_pass(src, middle, 1, taps_of(FilterSet::Bilinear, mx));
+    }
+    mixed(src, window, mx, my)
+}
+
+pub fn filter_wide(src: &[u8], window: Window, way: Way) -> [u8; 256]
+    requires { ⌜ Held (length (now src)) (window .at) (window .pitch) 21 21 ⌝ }
+    requires { ⌜ way .mx < 8 ⌝ }
+    requires { ⌜ way .my < 8 ⌝ }
+    ensures { λ r. ⌜ r ≡ windowBlock 16 (now (src .entry)) window way ⌝ }
+{
+    let set = way.set;
+    match set {
+        FilterSet::Sixtap => six_wide(src, window, way.mx, way.my),
+        FilterSet::Bilinear => mixed_wide(src, window, way.mx, way.my),
+    }
+}
