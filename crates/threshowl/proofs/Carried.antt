@@ -29,7 +29,7 @@ use Rattle.rfc6386.specs.Laws.Blocks.{length-block}
 use Rattle.rfc6386.specs.Laws.Merging.{zeros-bytes}
 use Rattle.rfc6386.specs.Laws.Versions.{versionLowering, whole-meant, split-meant, whole-reserved, split-reserved}
 use Rattle.threshowl.specs.Boundary.{setOf, flagOf, vectorAt, vectorsOf, int16, flat, callNumber, Left}
-use Rattle.threshowl.proofs.Laws.{left-as, left-refused, codes-as, one-outcome}
+use Rattle.threshowl.proofs.Laws.{left-as, left-refused, codes-as, one-outcome, vectors-read}
 use Rattle.rfc6386.specs.declared.Mv.{Mv}
 use Rattle.rfc6386.specs.declared.FilterSet.{FilterSet}
 use Rattle.rfc6386.specs.declared.ReconstructedMb.{ReconstructedMb}
@@ -74,9 +74,9 @@ module _ (v : Mv) (fr : SFits w16 (v .row)) (fc : SFits w16 (v .col)) where
 
   -- THEOREM. Read back, those bytes are the vector sixteen times.
   pub spelled-is : vectorsOf (sixteenSpelled v) ≡ sixteen v
-  unfolding vectorsOf
   spelled-is =
-      sym (is-tab v 16 (vectorAt (sixteenSpelled v)) (sixteen v) (length-replicate 16 v) (λ i h. getD-replicate 16 i v v h ∙ sym (vector-is i h)))
+      vectors-read (sixteenSpelled v) (length-tab 64 (λ i. getD (spelled v) (i % 4) 0))
+      ∙ sym (is-tab v 16 (vectorAt (sixteenSpelled v)) (sixteen v) (length-replicate 16 v) (λ i h. getD-replicate 16 i v v h ∙ sym (vector-is i h)))
 
 -- ---- what the contracts allow: the number r and the final bytes out′ of an output that held out, where the codes besides the vectors get
 -- the number `codes`

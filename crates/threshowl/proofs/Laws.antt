@@ -6,26 +6,27 @@ use Prim.Native.Nat.{ℕ, zero, suc, _+_, _-_, _<_, _≤_}
 use native.Mathlib.Numerals.{add-one}
 use native.Mathlib.Omega.{arith}
 use lib.Dec.{eqb}
-use lib.ListN.{length, getD, set, drop, length-append, length-drop, drop-of-length-le}
+use lib.ListN.{length, getD, set, drop, replicate, length-append, length-drop, drop-of-length-le}
 use lib.Seq.{paste, paste-suc, getD-set-same, getD-set-other, take-at, take-length, drop-append-add}
 use lib.IntN.{pos, negsuc, _-ℤ_}
 use mir.Syntax.{w16}
 use mir.Val.{SFits, toZ, ofZ}
 use mir.Facts.{toZ-pos}
-use borrow.Author.Tests.{eqb-true}
+use borrow.Author.Tests.{eqb-true, eq-eqb, ne-eqb}
 use borrow.Author.Count.{below-more}
 use Rattle.signed.specs.Int.{int, diff}
 use Rattle.signed.specs.Held.{Held, nat-at, lit-neg, sub, sub-need}
 use Rattle.rfc6386.specs.Number.{wrap16}
-use Rattle.rfc6386.specs.Vector.{Lowering}
+use Rattle.rfc6386.specs.Vector.{Lowering, zeroVector}
+use Rattle.rfc6386.specs.Raster.{tab}
 use Rattle.rfc6386.specs.Filter.{versionProfile}
-use Rattle.rfc6386.specs.Refusal.{orElse, countRefusal, roomRefusal}
+use Rattle.rfc6386.specs.Refusal.{orElse, ifDone, countRefusal, roomRefusal}
 use Rattle.rfc6386.specs.Version.{reservedVersion, byVersion}
 use Rattle.rfc6386.specs.Promises.{one-result}
 use Rattle.rfc6386.specs.Laws.Vectors.{wrap-in, wrap-high}
 use Rattle.rfc6386.specs.Laws.Refusals.{done, refused}
 use Rattle.rfc6386.specs.Laws.Versions.{refused-by}
-use Rattle.threshowl.specs.Boundary.{setOf, flat, callNumber, Left}
+use Rattle.threshowl.specs.Boundary.{setOf, vectorAt, vectorsOf, flat, callNumber, Left}
 use Rattle.rfc6386.specs.declared.FilterSet.{FilterSet}
 use Rattle.rfc6386.specs.declared.FilterSet.the-variants.{Bilinear}
 use Rattle.rfc6386.specs.declared.Profile.{Profile}
@@ -131,3 +132,13 @@ module _ (version : ℕ) (standard : Bool) {p : Profile} (is : p ≡ versionProf
 -- ---- THEOREM. No two outcomes meet the contract of a C function: its number, and the bytes that it leaves.
 pub one-outcome : {p : Prediction} {codes : ℕ} {out : List ℕ} {r s : ℕ} {a b : List ℕ} → Left p codes out r a → Left p codes out s b → (r ≡ s) × (a ≡ b)
 one-outcome h k = (one-result (h .number-is) (k .number-is), one-result (h .bytes-are) (k .bytes-are))
+
+-- ---- vectors
+-- sixteen out of 64 bytes, and zeros out of any other number
+pub vectors-read : (b : List ℕ) → length b ≡ 64 → vectorsOf b ≡ tab 16 (vectorAt b)
+unfolding vectorsOf ifDone
+vectors-read b e = ap (λ (t : Bool). ifDone (cond t 0 6) (tab 16 (vectorAt b)) (replicate 16 zeroVector)) (eq-eqb (length b) 64 e)
+
+pub vectors-none : (b : List ℕ) → (length b ≡ 64 → ⊥) → vectorsOf b ≡ replicate 16 zeroVector
+unfolding vectorsOf ifDone
+vectors-none b n = ap (λ (t : Bool). ifDone (cond t 0 6) (tab 16 (vectorAt b)) (replicate 16 zeroVector)) (ne-eqb (length b) 64 n)

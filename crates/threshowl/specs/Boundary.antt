@@ -4,9 +4,10 @@ use mathlib.Core.Bool.{Bool, cond, not}
 use mathlib.Core.List.{List, _++_}
 use Prim.Native.Nat.{ℕ, zero, suc, _+_, _*_}
 use lib.Dec.{ltb, eqb}
-use lib.ListN.{length, getD}
+use lib.ListN.{length, getD, replicate}
 use lib.IntN.{ℤ, pos}
 use Rattle.rfc6386.specs.Number.{wrap16}
+use Rattle.rfc6386.specs.Vector.{zeroVector}
 use Rattle.rfc6386.specs.Raster.{tab}
 use Rattle.rfc6386.specs.Refusal.{orElse, ifDone, codeRefusal, countRefusal, roomRefusal}
 use Rattle.rfc6386.specs.declared.Mv.{Mv}
@@ -39,9 +40,9 @@ abbrev pub vectorAt : List ℕ → ℕ → Mv
 vectorAt b i =
     record { row = int16 (getD b (4 * i) 0) (getD b (4 * i + 1) 0); col = int16 (getD b (4 * i + 2) 0) (getD b (4 * i + 3) 0) }
 
--- sixteen of them; a byte past the end counts as 0
+-- sixteen of them, and zeros where there are not 64 bytes
 unfoldable pub vectorsOf : List ℕ → List Mv
-vectorsOf b = tab 16 (vectorAt b)
+vectorsOf b = ifDone (countRefusal 64 (length b)) (tab 16 (vectorAt b)) (replicate 16 zeroVector)
 
 -- ---- the output
 -- the samples of a macroblock one after the other
