@@ -4,12 +4,11 @@ ghost use Prim.Native.Nat.{_+_, _*_, _<_, _≤_};
 ghost use lib.ListN.{length, getD};
 ghost use Rattle.rfc6386.specs.Raster.{raster};
 ghost use Rattle.rfc6386.specs.Picture.{stepAt, haloBlock};
-ghost use Rattle.steps.specs.Rows.{laidTwice, Held};
+ghost use Rattle.steps.specs.Rows.{laid, laidTwice, Held};
 ghost use Rattle.steps.specs.Taps.{signedTaps, Small, Middle, twoTaps};
 ghost use Rattle.steps.specs.Window.{windowList, windowBlock, mixAt};
+use crate::ring::two;
 use rfc6386::FilterSet;
-use steps::lines::first_line;
-use steps::lines::last_line;
 use steps::lines::line;
 use steps::lines::mix_line;
 use steps::rect::Window;
@@ -17,26 +16,6 @@ use steps::step::mix_at;
 use steps::taps::Taps;
 use steps::taps::taps_of;
 use steps::way::Way;
-
-// Both passes of six taps.
-fn two(src: &[u8], window: Window, mx: usize, my: usize) -> [u8; 256]
-    requires { ⌜ Held (length (now src)) (window .at) (window .pitch) 21 21 ⌝ }
-    requires { ⌜ mx < 8 ⌝ }
-    requires { ⌜ my < 8 ⌝ }
-    ensures { λ r. ⌜ r ≡ haloBlock 16 FilterSet.Sixtap (windowList 21 (now (src .entry)) (window .at) (window .pitch)) mx my ⌝ }
-{
-    let tx = taps_of(FilterSet::Sixtap, mx);
-    let ty = taps_of(FilterSet::Sixtap, my);
-    let mut m = [0u16; 336];
-    let mut r: usize = 0;
-    while r < 21 {
-        first_line(src, window.at + r * window.pitch, 1, &mut m, r * 16, 16, tx);
-        r += 1;
-    }
-    let mut out = [0u8; 256];
-    last_line(&m, 0, 16, &mut out, 0, 256, ty);
-    out
-}
 
 // One pass of six taps, over samples `gap` apart.
 fn pass(src: &[u8], window: Window, gap: usize, t: Taps) -> [u8; 256]
@@ -61,18 +40,27 @@ fn pass(src: &[u8], window: Window, gap: usize, t: Taps) -> [u8; 256]
     out
 }
 
-// Two rows of steps of the two middle taps, eight rows apart: one row alone would not become vector code.
-fn mix_rows(src: &[u8], upper: usize, lower: usize, gap: usize, t: Taps, out: &mut [u8], to: usize)
+// Two rows of steps of the two middle taps, which are left `off` apart: one row alone would not become vector code.
+fn mix_rows(
+    src: &[u8],
+    upper: usize,
+    lower: usize,
+    gap: usize,
+    t: Taps,
+    out: &mut [u8],
+    to: usize,
+    off: usize,
+)
     requires { ⌜ Middle t ⌝ }
     requires { ⌜ upper + 16 + gap ≤ length (now src) ⌝ }
     requires { ⌜ lower + 16 + gap ≤ length (now src) ⌝ }
-    requires { ⌜ to + 144 ≤ length (now out) ⌝ }
-    ensures { λ _. ⌜ now (out .exit) ≡ laidTwice (now (out .entry)) to 128 16 (λ c. twoTaps t (getD (now (src .entry)) (upper + c) 0) (getD (now (src .entry)) (upper + c + gap) 0)) (λ c. twoTaps t (getD (now (src .entry)) (lower + c) 0) (getD (now (src .entry)) (lower + c + gap) 0)) ⌝ }
+    requires { ⌜ (16 ≤ off) × (to + off + 16 ≤ length (now out)) ⌝ }
+    ensures { λ _. ⌜ now (out .exit) ≡ laidTwice (now (out .entry)) to off 16 (λ c. twoTaps t (getD (now (src .entry)) (upper + c) 0) (getD (now (src .entry)) (upper + c + gap) 0)) (λ c. twoTaps t (getD (now (src .entry)) (lower + c) 0) (getD (now (src .entry)) (lower + c + gap) 0)) ⌝ }
 {
     let mut c: usize = 0;
     while c < 16 {
         out[to + c] = mix_at(src, upper + c, gap, t);
-        out[to + 128 + c] = mix_at(src, lower + c, gap, t);
+        out[to + off + c] = mix_at(src, lower + c, gap, t);
         c += 1;
     }
 }
@@ -94,13 +82,27 @@ fn mix_pass(src: &[u8], window: Window, gap: usize, t: Taps) -> [u8; 256]
             t,
             &mut out,
             r * 16,
+            128,
         );
         r += 1;
     }
     out
 }
 
-// Both passes of two taps. The first makes 17 rows, the ninth of them twice.
+// 16 samples of a list from `from` on, to an earlier place in it.
+fn move_row(m: &mut [u8], to: usize, from: usize)
+    requires { ⌜ to + 16 ≤ from ⌝ }
+    requires { ⌜ from + 16 ≤ length (now m) ⌝ }
+    ensures { λ _. ⌜ now (m .exit) ≡ laid (now (m .entry)) to 16 (λ c. getD (now (m .entry)) (from + c) 0) ⌝ }
+{
+    let mut c: usize = 0;
+    while c < 16 {
+        m[to + c] = m[from + c];
+        c += 1;
+    }
+}
+
+// Both passes of two taps: four rows a turn, out of five of the first pass.
 fn mixed(src: &[u8], window: Window, mx: usize, my: usize) -> [u8; 256]
     requires { ⌜ Held (length (now src)) (window .at) (window .pitch) 21 21 ⌝ }
     requires { ⌜ mx < 8 ⌝ }
@@ -110,22 +112,19 @@ fn mixed(src: &[u8], window: Window, mx: usize, my: usize) -> [u8; 256]
     let tx = taps_of(FilterSet::Bilinear, mx);
     let ty = taps_of(FilterSet::Bilinear, my);
     let at = window.at + 2 * window.pitch + 2;
-    let mut m = [0u8; 272];
-    let mut r: usize = 0;
-    while r < 9 {
-        mix_rows(
-            src,
-            at + r * window.pitch,
-            at + (r + 8) * window.pitch,
-            1,
-            tx,
-            &mut m,
-            r * 16,
-        );
-        r += 1;
-    }
+    let mut m = [0u8; 80];
+    mix_line(src, at, 1, &mut m, 0, 16, tx);
     let mut out = [0u8; 256];
-    mix_line(&m, 0, 16, &mut out, 0, 256, ty);
+    let mut r: usize = 0;
+    while r < 16 {
+        let upper = at + (r + 1) * window.pitch;
+        let lower = at + (r + 3) * window.pitch;
+        mix_rows(src, upper, upper + window.pitch, 1, tx, &mut m, 16, 16);
+        mix_rows(src, lower, lower + window.pitch, 1, tx, &mut m, 48, 16);
+        mix_line(&m, 0, 16, &mut out, r * 16, 64, ty);
+        move_row(&mut m, 0, 64);
+        r += 4;
+    }
     out
 }
 

@@ -38,7 +38,7 @@ fn least(q: u16) -> u16
 }
 
 // One step over six bytes.
-fn weigh(t: Taps, a: u16, b: u16, c: u16, d: u16, e: u16, f: u16) -> u16
+pub fn weigh(t: Taps, a: u16, b: u16, c: u16, d: u16, e: u16, f: u16) -> u16
     requires { ⌜ Small t ⌝ }
     requires { ⌜ (a ≤ 255) × (b ≤ 255) × (c ≤ 255) × (d ≤ 255) × (e ≤ 255) × (f ≤ 255) ⌝ }
     ensures { λ r. ⌜ r ≡ step (signedTaps t) (a ∷ b ∷ c ∷ d ∷ e ∷ f ∷ []) ⌝ }

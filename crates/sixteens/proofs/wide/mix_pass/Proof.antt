@@ -9,7 +9,7 @@ use Rattle.sixteens.proofs.wide.mix_pass.Statement.{statement}
 use Rattle.sixteens.proofs.wide.mix_pass.Tie as tie
 
 abbrev Inv-loop : tie.InvT-loop
-Inv-loop src window gap t out₀ r₀ out r = Halved 256 (mixAt t src (window .at) (window .pitch) gap) out r
+Inv-loop src window gap t out₀ r₀ out r = Halved (mixAt t src (window .at) (window .pitch) gap) out r
 
 abbrev μ-loop : tie.MeasureT-loop
 μ-loop src window gap t out₀ r₀ out r = 8 - r
@@ -31,7 +31,7 @@ mix-rows-requires : tie.Need-mix-rows-requires Inv-loop μ-loop
 mix-rows-requires c κs = (c .before .before .before .before .before .before .before .before .pre .0, (omega (arith, rows (c .before .before .before .before .before)), (omega (arith, rows (c .before .before .before .before .before)), omega (arith, c .before .before .before .before .before .loop-test .taken, c .before .before .before .before .before .before .loop .inv .size))))
 
 loop-again : tie.Need-loop-again Inv-loop μ-loop
-loop-again c = halved-more (c .before .before .before .before .before .before .before .before .loop .inv) (omega (arith, c .before .before .before .before .before .before .before .loop-test .taken)) (c .before .mix-rows .ensures)
+loop-again c = halved-more (c .before .before .before .before .before .before .before .before .loop .inv) (c .before .before .before .before .before .before .before .loop-test .taken) (c .before .mix-rows .ensures)
 
 pub mix-pass-spec : {M : Type 1} → statement M
 mix-pass-spec =

@@ -8,11 +8,11 @@ use Rattle.sixteens.proofs.wide.mix_rows.Statement.{statement}
 use Rattle.sixteens.proofs.wide.mix_rows.Tie as tie
 
 abbrev Inv-loop : tie.InvT-loop
-Inv-loop src upper lower gap t out₀ to c₀ out c =
-    Twice out₀ to 128 16 (λ c. twoTaps t (getD src (upper + c) 0) (getD src (upper + c + gap) 0)) (λ c. twoTaps t (getD src (lower + c) 0) (getD src (lower + c + gap) 0)) out c
+Inv-loop src upper lower gap t out₀ to off c₀ out c =
+    Twice out₀ to off 16 (λ c. twoTaps t (getD src (upper + c) 0) (getD src (upper + c + gap) 0)) (λ c. twoTaps t (getD src (lower + c) 0) (getD src (lower + c + gap) 0)) out c
 
 abbrev μ-loop : tie.MeasureT-loop
-μ-loop src upper lower gap t out₀ to c₀ out c = 16 - c
+μ-loop src upper lower gap t out₀ to off c₀ out c = 16 - c
 
 slice-write-out-2 : tie.Need-slice-write-out-2 Inv-loop μ-loop
 slice-write-out-2 c = let l = c .before .before .before .loop in omega (arith, c .before .before .before .before .before .before .pre, l .inv .size, length-set (l .out) (c .before .before .before .before .before .before .args .to + l .c) (c .before .mix-at .result))

@@ -1,18 +1,16 @@
 -- `wide::pass` meets its contract: a row a turn. Assumes nothing.
-use mathlib.Core.Path.{refl, sym, _∙_}
+use mathlib.Core.Path.{refl, sym}
 use Prim.Native.Nat.{_+_, _-_, _*_, _≤_}
 use native.Mathlib.Omega.{arith}
 use lib.ListN.{length}
 use Rattle.rfc6386.specs.Picture.{stepAt}
-use Rattle.rfc6386.specs.Laws.Raster.{written-all}
 use Rattle.steps.specs.Taps.{signedTaps}
-use Rattle.steps.specs.Laws.Copying.{Writing, writing-none, writing-all}
-use Rattle.sixteens.proofs.Rows16.{row-more}
+use Rattle.sixteens.proofs.Rows16.{Filled, filled-none, filled-row, filled-raster}
 use Rattle.sixteens.proofs.wide.pass.Statement.{statement}
 use Rattle.sixteens.proofs.wide.pass.Tie as tie
 
 abbrev Inv-loop : tie.InvT-loop
-Inv-loop src window gap t out₀ r₀ out r = Writing out₀ 16 0 0 16 16 (λ r c. stepAt (signedTaps t) src (window .at + r * window .pitch + c) gap) out r
+Inv-loop src window gap t out₀ r₀ out r = Filled 256 (λ r c. stepAt (signedTaps t) src (window .at + r * window .pitch + c) gap) out r
 
 abbrev μ-loop : tie.MeasureT-loop
 μ-loop src window gap t out₀ r₀ out r = 16 - r
@@ -25,7 +23,7 @@ line-requires : tie.Need-line-requires Inv-loop μ-loop
 line-requires c κs = (c .before .before .before .before .before .before .pre .0, (omega (arith, row (c .before .before .before)), omega (arith, c .before .before .before .loop-test .taken, c .before .before .before .before .loop .inv .size)))
 
 loop-again : tie.Need-loop-again Inv-loop μ-loop
-loop-again c = row-more (c .before .before .before .before .before .before .loop .inv) (c .before .before .before .before .before .loop-test .taken) (c .before .line .ensures)
+loop-again c = filled-row (c .before .before .before .before .before .before .loop .inv) (c .before .before .before .before .before .loop-test .taken) (c .before .line .ensures)
 
 pub pass-spec : {M : Type 1} → statement M
 pass-spec =
@@ -33,7 +31,7 @@ pass-spec =
     (tie.spec
     Inv-loop
     μ-loop
-    (λ c. writing-none)
+    (λ c. filled-none refl)
     (λ c. omega (arith, row (c .before)))
     (λ c. omega (arith, row (c .before .before)))
     (λ c. sym (c .before .before .before .before .loop .inv .size))
@@ -42,4 +40,4 @@ pass-spec =
     (λ c. omega (arith, c .before .before .before .before .before .loop-test .taken))
     (λ c. omega (arith, c .before .before .before .before .before .loop-test .taken))
     loop-again
-    (λ c. writing-all (c .before .loop .inv) (c .loop-test .left) ∙ written-all _ 16 16 _ refl))
+    (λ c. filled-raster (c .before .loop .inv) (c .loop-test .left)))

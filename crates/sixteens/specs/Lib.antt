@@ -1,0 +1,2 @@
+-- What functions of this crate promise each other.
+pub mod Rolling
