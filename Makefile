@@ -18,6 +18,8 @@
 #   make rfc-version3 RFC=FILE
 #                           run the decoder that RFC 6386 prints, given its text,
 #                           on version 3 beside the two modes of it here
+#   make libvpx-check       libvpx's VP8 decoder over this library, beside the stock
+#                           one: every sample, and frames a second
 #   make bench RUST=SRC     time both in one run on this processor; bench/count
 #                           counts x86-64 instructions
 #   make install PREFIX=DIR header, library, pkg-config file and programs
@@ -62,7 +64,7 @@ EXPECTED = examples/lamp_panel.expected
 FREESTANDING = tests/freestanding/host.c
 
 .PHONY: demo demo-check check mirror versions oracle bench install install-check clean tools rust-named FORCE
-.PHONY: programs tools-check freestanding ivf-evidence ivf-bench y4m-evidence y4m-bench rfc-version3 rfc-named
+.PHONY: libvpx-check programs tools-check freestanding ivf-evidence ivf-bench y4m-evidence y4m-bench rfc-version3 rfc-named
 
 demo: target/demo/lamp_panel
 	$(EMULATOR) target/demo/lamp_panel target/demo
@@ -121,6 +123,9 @@ oracle: rust-named $(ARCHIVE) $(SHIMS)
 
 rfc-version3: rfc-named $(ARCHIVE) | tools
 	CC="$(CC)" AS_C="$(AS_C)" EMULATOR="$(EMULATOR)" SEED="$(SEED)" tests/rfc/run-version3 "$(RFC)" "$(ARCHIVE)"
+
+libvpx-check: $(ARCHIVE)
+	CC="$(AS_C)" examples/libvpx/run "$(ARCHIVE)"
 
 bench: rust-named $(BENCHED)
 	bench/run "$(RUST)" $(BENCHED)
