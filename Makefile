@@ -20,6 +20,8 @@
 #                           on version 3 beside the two modes of it here
 #   make libvpx-check       libvpx's VP8 decoder over this library, beside the stock
 #                           one: every sample, and frames a second
+#   make bindings-check     the Rust binding's own tests; with RUST=SRC also beside
+#                           the original
 #   make bench RUST=SRC     time both in one run on this processor; bench/count
 #                           counts x86-64 instructions
 #   make install PREFIX=DIR header, library, pkg-config file and programs
@@ -64,7 +66,7 @@ EXPECTED = examples/lamp_panel.expected
 FREESTANDING = tests/freestanding/host.c
 
 .PHONY: demo demo-check check mirror versions oracle bench install install-check clean tools rust-named FORCE
-.PHONY: libvpx-check programs tools-check freestanding ivf-evidence ivf-bench y4m-evidence y4m-bench rfc-version3 rfc-named
+.PHONY: bindings-check libvpx-check programs tools-check freestanding ivf-evidence ivf-bench y4m-evidence y4m-bench rfc-version3 rfc-named
 
 demo: target/demo/lamp_panel
 	$(EMULATOR) target/demo/lamp_panel target/demo
@@ -126,6 +128,9 @@ rfc-version3: rfc-named $(ARCHIVE) | tools
 
 libvpx-check: $(ARCHIVE)
 	CC="$(AS_C)" examples/libvpx/run "$(ARCHIVE)"
+
+bindings-check: $(ARCHIVE)
+	RUST="$(RUST)" bindings/rust/check "$(ARCHIVE)"
 
 bench: rust-named $(BENCHED)
 	bench/run "$(RUST)" $(BENCHED)

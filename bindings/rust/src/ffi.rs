@@ -1,0 +1,114 @@
+//! The functions of include/threshowl.h as safe ones, which give back the C number. Each slice is handed over with its own length,
+//! and what is written is lent alone; beyond that the C functions take every value.
+//!
+//! A further function of the header is declared here, and offered by the module that it belongs to: predictions by `prediction`,
+//! and under the original's name by `motion_comp` where it has one. A prediction of the same shape is one line of `predictions!`.
+
+use crate::motion_vector::Mv;
+use crate::prediction::{Picture, Position};
+
+/// A prediction has the picture and the position before its own vectors, and two codes and the output after them.
+macro_rules! predictions {
+    ($($name:ident = $symbol:ident($given:ident: $type:ty => $($handed:expr => $c:ty),*);)*) => {
+        extern "C" {
+            $(fn $symbol(
+                y: *const u8, y_len: usize, u: *const u8, u_len: usize, v: *const u8, v_len: usize,
+                y_stride: usize, u_stride: usize, v_stride: usize,
+                mb_cols: usize, mb_rows: usize, mb_col: usize, mb_row: usize,
+                $(_: $c,)* first_code: u8, second_code: u8, out: *mut u8, out_len: usize,
+            ) -> u32;)*
+        }
+        $(pub(crate) fn $name(
+            picture: &Picture<'_>, at: Position, $given: $type, codes: (u8, u8), out: &mut [u8; 384],
+        ) -> u32 {
+            let Picture { y, u, v, .. } = *picture;
+            // SAFETY: as the head of this file says.
+            unsafe {
+                $symbol(
+                    y.as_ptr(), y.len(), u.as_ptr(), u.len(), v.as_ptr(), v.len(),
+                    picture.y_stride, picture.u_stride, picture.v_stride,
+                    picture.mb_cols, picture.mb_rows, at.mb_col, at.mb_row,
+                    $($handed,)* codes.0, codes.1, out.as_mut_ptr(), out.len(),
+                )
+            }
+        })*
+    };
+}
+
+predictions! {
+    whole = threshowl_predict_whole(mv: Mv => mv.row => i16, mv.col => i16);
+    whole_by_version = threshowl_predict_whole_by_version(mv: Mv => mv.row => i16, mv.col => i16);
+    split = threshowl_predict_split(vectors: &[u8; 64] => vectors.as_ptr() => *const u8, vectors.len() => usize);
+    split_by_version =
+        threshowl_predict_split_by_version(vectors: &[u8; 64] => vectors.as_ptr() => *const u8, vectors.len() => usize);
+    merging = threshowl_predict_merging(vectors: &[u8; 64] => vectors.as_ptr() => *const u8, vectors.len() => usize);
+}
+
+extern "C" {
+    fn threshowl_ivf_mend(
+        file: *const u8,
+        file_len: usize,
+        out: *mut u8,
+        out_len: usize,
+        old_count: *mut u64,
+        new_count: *mut u64,
+        dropped: *mut u64,
+    ) -> u32;
+
+    fn threshowl_y4m_header(file: *const u8, file_len: usize, width: *mut u64, height: *mut u64, taken: *mut u64) -> u32;
+
+    fn threshowl_y4m_read_frame(
+        file: *const u8,
+        file_len: usize,
+        width: usize,
+        height: usize,
+        out: *mut u8,
+        out_len: usize,
+        taken: *mut u64,
+    ) -> u32;
+
+    fn threshowl_y4m_write_frame(
+        frame: *const u8,
+        frame_len: usize,
+        width: usize,
+        height: usize,
+        out: *mut u8,
+        out_len: usize,
+        written: *mut u64,
+    ) -> u32;
+}
+
+/// The number, and the three that the call reports.
+pub(crate) fn ivf_mend(file: &[u8], out: &mut [u8]) -> (u32, [u64; 3]) {
+    let [mut old_count, mut new_count, mut dropped] = [0; 3];
+    let (from, to) = (file.as_ptr(), out.as_mut_ptr());
+    // SAFETY: as the head of this file says.
+    let number = unsafe { threshowl_ivf_mend(from, file.len(), to, out.len(), &mut old_count, &mut new_count, &mut dropped) };
+    (number, [old_count, new_count, dropped])
+}
+
+/// The number, and the three that the call reports.
+pub(crate) fn y4m_header(file: &[u8]) -> (u32, [u64; 3]) {
+    let [mut width, mut height, mut taken] = [0; 3];
+    // SAFETY: as the head of this file says.
+    let number = unsafe { threshowl_y4m_header(file.as_ptr(), file.len(), &mut width, &mut height, &mut taken) };
+    (number, [width, height, taken])
+}
+
+/// The number, and the bytes taken.
+pub(crate) fn y4m_read_frame(file: &[u8], width: usize, height: usize, out: &mut [u8]) -> (u32, u64) {
+    let mut taken = 0;
+    let (from, to) = (file.as_ptr(), out.as_mut_ptr());
+    // SAFETY: as the head of this file says.
+    let number = unsafe { threshowl_y4m_read_frame(from, file.len(), width, height, to, out.len(), &mut taken) };
+    (number, taken)
+}
+
+/// The number, and the bytes written.
+pub(crate) fn y4m_write_frame(frame: &[u8], width: usize, height: usize, out: &mut [u8]) -> (u32, u64) {
+    let mut written = 0;
+    let (from, to) = (frame.as_ptr(), out.as_mut_ptr());
+    // SAFETY: as the head of this file says.
+    let number = unsafe { threshowl_y4m_write_frame(from, frame.len(), width, height, to, out.len(), &mut written) };
+    (number, written)
+}

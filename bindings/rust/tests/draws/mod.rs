@@ -1,0 +1,66 @@
+//! Pictures, positions and vectors drawn at random, for the tests, each of which takes a part.
+#![allow(dead_code)]
+
+/// A xorshift generator.
+pub struct Draw(u64);
+
+impl Draw {
+    pub fn new() -> Draw {
+        Draw(0x9E37_79B9_7F4A_7C15)
+    }
+
+    pub fn number(&mut self) -> u32 {
+        self.0 ^= self.0 << 13;
+        self.0 ^= self.0 >> 7;
+        self.0 ^= self.0 << 17;
+        (self.0 >> 32) as u32
+    }
+
+    pub fn below(&mut self, n: usize) -> usize {
+        self.number() as usize % n
+    }
+
+    pub fn coin(&mut self) -> bool {
+        self.number() & 1 == 1
+    }
+
+    /// Short, or any.
+    fn component(&mut self) -> i16 {
+        match self.below(3) {
+            0 => self.number() as i16,
+            1 => (self.below(33) * 4) as i16 - 64,
+            _ => self.below(257) as i16 - 128,
+        }
+    }
+
+    /// Row and column.
+    pub fn vector(&mut self) -> (i16, i16) {
+        (self.component(), self.component())
+    }
+}
+
+/// Planes with rows longer than they need be, and a macroblock in them.
+pub struct Planes {
+    pub y: Vec<u8>,
+    pub u: Vec<u8>,
+    pub v: Vec<u8>,
+    pub y_stride: usize,
+    pub uv_stride: usize,
+    pub mb_cols: usize,
+    pub mb_rows: usize,
+    pub mb_col: usize,
+    pub mb_row: usize,
+}
+
+impl Planes {
+    pub fn drawn(draw: &mut Draw) -> Planes {
+        let (mb_cols, mb_rows) = (1 + draw.below(4), 1 + draw.below(4));
+        let (y_stride, uv_stride) = (mb_cols * 16 + draw.below(9), mb_cols * 8 + draw.below(9));
+        let mut plane = |len: usize| (0..len).map(|_| draw.number() as u8).collect();
+        let y = plane(y_stride * mb_rows * 16);
+        let u = plane(uv_stride * mb_rows * 8);
+        let v = plane(uv_stride * mb_rows * 8);
+        let (mb_col, mb_row) = (draw.below(mb_cols), draw.below(mb_rows));
+        Planes { y, u, v, y_stride, uv_stride, mb_cols, mb_rows, mb_col, mb_row }
+    }
+}
