@@ -7,6 +7,7 @@
 #   make check              the gate
 #   make mirror             flip pictures and vectors, and compare the answers
 #   make versions           every version number, on good input and with faults
+#   make quarters           merging by quarters beside split, and with faults
 #   make programs           the programs for people, in target/programs
 #   make tools-check        build them, and try each on small files
 #   make freestanding       link a host that has no C library, and run it
@@ -65,7 +66,7 @@ HOST = examples/lamp_panel.c
 EXPECTED = examples/lamp_panel.expected
 FREESTANDING = tests/freestanding/host.c
 
-.PHONY: demo demo-check check mirror versions oracle bench install install-check clean tools rust-named FORCE
+.PHONY: demo demo-check check mirror versions quarters oracle bench install install-check clean tools rust-named FORCE
 .PHONY: bindings-check libvpx-check programs tools-check freestanding ivf-evidence ivf-bench y4m-evidence y4m-bench rfc-version3 rfc-named
 
 demo: target/demo/lamp_panel
@@ -86,6 +87,9 @@ mirror: target/mirror/mirror
 
 versions: target/versions/versions
 	$(EMULATOR) target/versions/versions $(SEED)
+
+quarters: target/quarters/quarters
+	$(EMULATOR) target/quarters/quarters $(SEED)
 
 # A program NAME is programs/NAME.c, its page programs/NAME.1, its trial programs/NAME.test.
 PROGRAMS = mend y4m
@@ -172,7 +176,7 @@ target/freestanding/host: $(FREESTANDING) include/threshowl.h $(ARCHIVE) | tools
 	    -Wl,--whole-archive "$(ARCHIVE)" -Wl,--no-whole-archive -o $@
 
 # The driver NAME is tests/NAME/NAME.c.
-target/mirror/mirror target/versions/versions: target/%: tests/%.c tests/draw.h include/threshowl.h $(ARCHIVE) | tools
+target/mirror/mirror target/versions/versions target/quarters/quarters: target/%: tests/%.c tests/draw.h include/threshowl.h $(ARCHIVE) | tools
 	mkdir -p $(@D)
 	$(AS_C) -Iinclude $< "$(ARCHIVE)" $(LDLIBS) -o $@
 

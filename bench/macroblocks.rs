@@ -75,11 +75,33 @@ fn mixed() -> Vectors {
     }))
 }
 
+/// Four vectors, each for the blocks that `part` gives its number.
+fn parts(part: impl Fn(usize) -> usize) -> Vectors {
+    let vectors = [(5, -3), (-3, 6), (7, 1), (-9, 11)];
+    Vectors::new(std::array::from_fn(|b| {
+        let (row, col) = vectors[part(b)];
+        Mv { row, col }
+    }))
+}
+
 pub const SPLIT_EQUAL: &str = "split, equal vectors";
 pub const MERGING_EQUAL: &str = "merging, equal vectors";
 
-fn inputs() -> [Input; 11] {
+/// Of quarters, split on the same input, and the most that the one's time is to
+/// be of the other's.
+pub const QUARTERS: [(&str, &str, f64); 5] = [
+    ("quarters, four quarters", "split, four quarters", 0.55),
+    ("quarters, halves of 16x8", "split, halves of 16x8", 0.55),
+    ("quarters, halves of 8x16", "split, halves of 8x16", 0.55),
+    ("quarters, equal vectors", SPLIT_EQUAL, 0.6),
+    ("quarters, mixed vectors", "split, mixed vectors", 1.04),
+];
+
+fn inputs() -> [Input; 19] {
     let equal = Vectors::equal(5, -3);
+    let quarters = parts(|b| b / 8 * 2 + b % 4 / 2);
+    let above = parts(|b| b / 8);
+    let beside = parts(|b| b % 4 / 2);
     [
         Input::whole("whole, two dimensions", 5, -3, 0.33),
         Input::whole("whole, across only", 8, -3, 0.45),
@@ -104,6 +126,14 @@ fn inputs() -> [Input; 11] {
         Input::new("split, mixed vectors", Form::Split, mixed(), Some(0.55)),
         Input::new(SPLIT_EQUAL, Form::Split, equal, None),
         Input::new(MERGING_EQUAL, Form::Merging, equal, None),
+        Input::new("split, four quarters", Form::Split, quarters, None),
+        Input::new("split, halves of 16x8", Form::Split, above, None),
+        Input::new("split, halves of 8x16", Form::Split, beside, None),
+        Input::new(QUARTERS[0].0, Form::Quarters, quarters, None),
+        Input::new(QUARTERS[1].0, Form::Quarters, above, None),
+        Input::new(QUARTERS[2].0, Form::Quarters, beside, None),
+        Input::new(QUARTERS[3].0, Form::Quarters, equal, None),
+        Input::new(QUARTERS[4].0, Form::Quarters, mixed(), None),
     ]
 }
 

@@ -133,19 +133,31 @@ fn print_times(cases: &[Case], best: &[Best]) {
 
 const MERGING_GOAL: f64 = 2.2;
 
+/// The product's time in the case of this title.
+fn product(title: &str, cases: &[Case], best: &[Best]) -> f64 {
+    let at = cases
+        .iter()
+        .position(|case| case.title == title)
+        .expect("the case stands in the list");
+    best[at].product
+}
+
 fn print_merging(cases: &[Case], best: &[Best]) {
-    let product = |title: &str| {
-        let at = cases
-            .iter()
-            .position(|case| case.title == title)
-            .expect("the case stands in the list");
-        best[at].product
-    };
+    let product = |title| product(title, cases, best);
     let times = product(macroblocks::SPLIT_EQUAL) / product(macroblocks::MERGING_EQUAL);
     let met = verdict(times >= MERGING_GOAL);
     println!(
         "merging is {times:.2} times as fast as split on equal vectors; goal {MERGING_GOAL}: {met}"
     );
+}
+
+fn print_quarters(cases: &[Case], best: &[Best]) {
+    println!("quarters over split, on the same input");
+    for (quarters, split, goal) in macroblocks::QUARTERS {
+        let ratio = product(quarters, cases, best) / product(split, cases, best);
+        let met = verdict(ratio <= goal);
+        println!("{quarters:<36} {ratio:>7.3} {goal:>6.2} {met}");
+    }
 }
 
 /// One side's calls of one case, and nothing else.
@@ -174,6 +186,7 @@ fn timed(cases: &[Case], of_macroblocks: usize, picture: &Picture) -> ExitCode {
     let best = best_of(cases);
     print_times(cases, &best);
     print_merging(&cases[..of_macroblocks], &best);
+    print_quarters(&cases[..of_macroblocks], &best);
     macroblocks::print_stack(picture);
     ExitCode::SUCCESS
 }

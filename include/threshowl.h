@@ -1,10 +1,11 @@
 /*
  * threshowl.h: VP8 inter prediction of one macroblock, for C11 and C++17.
  *
- * Three functions predict a macroblock from a reference picture: whole (one
- * vector), split (sixteen vectors) and merging (sixteen vectors, taken for one
- * where all are equal and no picture could tell).  Two more do the first two by
- * the version number of a frame's tag.  Link libthreshowl.a.  It
+ * Four functions predict a macroblock from a reference picture: whole (one
+ * vector), split (sixteen vectors), merging (sixteen vectors, taken for one
+ * where all are equal and no picture could tell) and quarters (sixteen vectors,
+ * of which equal ones are taken together in luma, by squares).  Two more do the
+ * first two by the version number of a frame's tag.  Link libthreshowl.a.  It
  * needs two symbols of the host, memcpy and memset as C has them, and no others.
  *
  *
@@ -28,7 +29,7 @@
  * down and right are positive.  Every value is taken.
  *
  *   whole            takes mv_row and mv_col.
- *   split, merging   take 64 bytes: the vectors of the sixteen 4x4 luma blocks
+ *   the other three  take 64 bytes: the vectors of the sixteen 4x4 luma blocks
  *                    in raster order, each as row then column, each number
  *                    little-endian.
  *
@@ -86,7 +87,7 @@ extern "C" {
 #define THRESHOWL_SIXTAP 0
 #define THRESHOWL_BILINEAR 1
 
-/* Lengths that split and merging want of vectors, and all want of out. */
+/* Lengths that split, merging and quarters want of vectors, and all want of out. */
 #define THRESHOWL_VECTORS_LEN 64
 #define THRESHOWL_OUT_LEN 384
 
@@ -159,6 +160,23 @@ uint32_t threshowl_predict_split(
  * whole and split prediction differ in chroma, and it does not merge.
  */
 uint32_t threshowl_predict_merging(
+    const uint8_t *y, size_t y_len,
+    const uint8_t *u, size_t u_len,
+    const uint8_t *v, size_t v_len,
+    size_t y_stride, size_t u_stride, size_t v_stride,
+    size_t mb_cols, size_t mb_rows,
+    size_t mb_col, size_t mb_row,
+    const uint8_t *vectors, size_t vectors_len,
+    uint8_t filter, uint8_t full_pixel,
+    uint8_t *out, size_t out_len);
+
+/*
+ * Gives the number and the samples of threshowl_predict_split on every input,
+ * sooner where vectors are equal: luma whose sixteen vectors are the same one is
+ * predicted in one go, else each 8x8 quarter whose four are, else by 4x4 blocks.
+ * Chroma is predicted as split does it, so that there is no range on the vectors.
+ */
+uint32_t threshowl_predict_quarters(
     const uint8_t *y, size_t y_len,
     const uint8_t *u, size_t u_len,
     const uint8_t *v, size_t v_len,

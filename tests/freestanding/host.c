@@ -111,6 +111,11 @@ static int merging(void)
     return predicted(threshowl_predict_merging(PICTURE, VECTORS, THRESHOWL_BILINEAR, 0, out, sizeof out));
 }
 
+static int quarters(void)
+{
+    return predicted(threshowl_predict_quarters(PICTURE, VECTORS, THRESHOWL_BILINEAR, 0, out, sizeof out));
+}
+
 static int whole_by_version(void)
 {
     return predicted(threshowl_predict_whole_by_version(PICTURE, 0, COL, 1, 0, out, sizeof out));
@@ -167,7 +172,7 @@ static int frame(void)
 
 /* ---- Where the program begins and ends (Linux, x86-64) ---- */
 
-static int (*const calls[])(void) = {whole, split, merging, whole_by_version, split_by_version, mend, header, frame};
+static int (*const calls[])(void) = {whole, split, merging, quarters, whole_by_version, split_by_version, mend, header, frame};
 
 int run(void);
 

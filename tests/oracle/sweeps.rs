@@ -39,7 +39,7 @@ impl Kind {
     }
 
     fn of_splits(title: &str) -> Kind {
-        Kind::new(title, &[Form::Split, Form::Merging])
+        Kind::new(title, &[Form::Split, Form::Merging, Form::Quarters])
     }
 
     fn compare(&mut self, call: &Call) {

@@ -4,6 +4,7 @@ pub mod chroma;
 mod fetch;
 mod near;
 pub mod place;
+pub mod sided;
 pub mod square;
 
 // port order 4 and 5, as in the Rust

@@ -52,7 +52,7 @@ fn clamped_row(plane: &[u8], at: usize, w: usize, x0: i64, n: usize, out: &mut [
 }
 
 // `rows` rows of `cols` clamped samples, to the first rows * cols bytes of out.
-fn clamped(
+pub fn clamped(
     plane: &[u8],
     stride: usize,
     w: usize,

@@ -6,6 +6,7 @@ ghost use lib.ListN.{length};
 ghost use Rattle.rfc6386.specs.Filter as filter;
 ghost use Rattle.rfc6386.specs.Picture.{haloBlock};
 ghost use Rattle.rfc6386.specs.Block.{interpolated, filtered4, filtered8, filtered16};
+use crate::sided::filter_eight;
 use fours::tile::filter_tile;
 use numbers::CODE;
 use rfc6386::Block4;
@@ -13,7 +14,6 @@ use rfc6386::Block8;
 use rfc6386::Block16;
 use rfc6386::FilterSet;
 use rfc6386::Sample;
-use sixteens::strips::filter_strips;
 use sixteens::wide::filter_wide;
 use steps::rect::Spot;
 use steps::rect::Window;
@@ -122,7 +122,7 @@ pub fn sixtap_2d(halo: &[u8; 81], mx: usize, my: usize, set: FilterSet) -> Block
     }
 }
 
-// ---- 8 samples a side, as two strips: the upper four rows beside the lower four
+// ---- 8 samples a side
 fn filter_8(halo: &[u8; 169], way: Way) -> [u8; 64]
     requires { ⌜ way .mx < 8 ⌝ }
     requires { ⌜ way .my < 8 ⌝ }
@@ -135,37 +135,16 @@ fn filter_8(halo: &[u8; 169], way: Way) -> [u8; 64]
             return out;
         }
     }
-    let strips = filter_strips(
+    filter_eight(
         halo,
         Window { at: 0, pitch: 13 },
-        halo,
-        Window { at: 52, pitch: 13 },
-        4,
         way,
-    );
-    copy_rect(
         &mut out,
         Spot {
             stride: 8,
             x: 0,
             y: 0,
         },
-        8,
-        4,
-        &strips,
-        Window { at: 0, pitch: 16 },
-    );
-    copy_rect(
-        &mut out,
-        Spot {
-            stride: 8,
-            x: 0,
-            y: 4,
-        },
-        8,
-        4,
-        &strips,
-        Window { at: 8, pitch: 16 },
     );
     out
 }

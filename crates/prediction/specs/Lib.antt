@@ -1,2 +1,3 @@
 -- What private functions of this crate promise each other.
 pub mod Tiles
+pub mod Luma

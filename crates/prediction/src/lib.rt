@@ -1,7 +1,7 @@
-// VP8 inter prediction of a macroblock: whole, at whole pixels, split and merging. No function that the crate offers asks anything of its
-// caller.
-mod predict;
-mod split;
+// VP8 inter prediction of a macroblock: whole, at whole pixels, split and merging. No function that is named below asks anything of its
+// caller; those that `quarters` takes out of the public modules ask that the macroblock was not refused.
+pub mod predict;
+pub mod split;
 
 // port order 6 and 7
 pub use predict::predict_inter_mb;

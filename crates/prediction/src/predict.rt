@@ -3,11 +3,15 @@
 ghost use mathlib.Core.Path.{_≡_};
 ghost use mathlib.Core.Bool.{cond, _&&_};
 ghost use Rattle.rfc6386.specs.Vector.{fullPixel, isWhole};
+ghost use Rattle.rfc6386.specs.Macroblock as macroblock;
 ghost use Rattle.rfc6386.specs.Macroblock.{lent, whole, split, wholePixel, noSamples};
+ghost use Rattle.prediction.specs.Luma.{ButLuma};
 use crate::split::split_chroma;
 use crate::split::split_luma;
 use blocks::block::block_of_16;
+use blocks::chroma::Chroma;
 use blocks::chroma::blocks_of_8;
+use blocks::place::Place;
 use blocks::place::place_of;
 use blocks::square::pixels_of_8;
 use blocks::square::pixels_of_16;
@@ -151,6 +155,37 @@ pub fn predict_inter_mb_whole_pixel(
     }
 }
 
+// A split macroblock but for its luma: where that stands, and the chroma samples.
+pub struct Rest {
+    pub luma_at: Place,
+    pub chroma: Chroma,
+}
+
+// The same of a macroblock that is not refused.
+pub fn split_but_luma(
+    y: &[u8],
+    u: &[u8],
+    v: &[u8],
+    sizes: Sizes,
+    mb_col: usize,
+    mb_row: usize,
+    split_luma_mvs: [Mv; 16],
+    lower_chroma: bool,
+    set: FilterSet,
+) -> Rest
+    requires { ⌜ macroblock.refusal (lent (now y) (now u) (now v) sizes) «mb_col» «mb_row» ≡ 0 ⌝ }
+    ensures { λ r. ⌜ ButLuma set «lower_chroma» (lent (now (y .entry)) (now (u .entry)) (now (v .entry)) sizes) «mb_col» «mb_row» «split_luma_mvs» r ⌝ }
+{
+    let mvs = quarter_vectors(split_luma_mvs, lower_chroma);
+    let luma_at = place_of(sizes.y_stride, sizes, mb_col, mb_row, 16);
+    let u_at = place_of(sizes.u_stride, sizes, mb_col, mb_row, 8);
+    let v_at = place_of(sizes.v_stride, sizes, mb_col, mb_row, 8);
+    Rest {
+        luma_at,
+        chroma: split_chroma(u, u_at, v, v_at, mvs, set),
+    }
+}
+
 // A vector for each of the sixteen 4x4 luma blocks; luma and chroma are lowered apart.
 pub fn predict_split_mv_lowered(
     y: &[u8],
@@ -170,17 +205,25 @@ pub fn predict_split_mv_lowered(
     if number != 0 {
         return refused(number);
     }
-    let chroma = quarter_vectors(split_luma_mvs, lower_chroma);
-    let y_at = place_of(sizes.y_stride, sizes, mb_col, mb_row, 16);
-    let u_at = place_of(sizes.u_stride, sizes, mb_col, mb_row, 8);
-    let v_at = place_of(sizes.v_stride, sizes, mb_col, mb_row, 8);
-    let chroma_blocks = split_chroma(u, u_at, v, v_at, chroma, set);
-    let u_samples = chroma_blocks.u;
-    let v_samples = chroma_blocks.v;
+    let rest = split_but_luma(
+        y,
+        u,
+        v,
+        sizes,
+        mb_col,
+        mb_row,
+        split_luma_mvs,
+        lower_chroma,
+        set,
+    );
+    let luma_at = rest.luma_at;
+    let chroma = rest.chroma;
+    let u_samples = chroma.u;
+    let v_samples = chroma.v;
     Prediction {
         number,
         samples: ReconstructedMb {
-            y: split_luma(y, y_at, split_luma_mvs, lower_luma, set),
+            y: split_luma(y, luma_at, split_luma_mvs, lower_luma, set),
             u: u_samples,
             v: v_samples,
         },

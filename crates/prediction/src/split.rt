@@ -18,7 +18,7 @@ use rfc6386::Mv;
 use steps::rect::Spot;
 
 // The place x columns and y rows further on.
-fn from(at: Place, x: usize, y: usize) -> Place
+pub fn from(at: Place, x: usize, y: usize) -> Place
     requires { ⌜ (at .x ≤ 16384) × (at .y ≤ 16384) × (x ≤ 16) × (y ≤ 16) ⌝ }
     ensures { λ r. ⌜ r ≡ record { stride = at .stride; w = at .w; h = at .h; x = at .x + x; y = at .y + y } ⌝ }
 {

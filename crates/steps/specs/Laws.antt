@@ -5,3 +5,4 @@ pub mod Windows
 pub mod Bytes
 pub mod Mixing
 pub mod Samples
+pub mod Parts

@@ -2,4 +2,5 @@
 pub mod Taps
 pub mod Rows
 pub mod Window
+pub mod Side
 pub mod Laws

@@ -10,6 +10,7 @@ use crate::vectors::mvs_of_bytes;
 use motion_vectors::are_one;
 use prediction::predict_inter_mb_lowered;
 use prediction::predict_split_mv_lowered;
+use quarters::predict_quarters;
 use refusals::code_refusal;
 use refusals::count_refusal;
 use refusals::or_else;
@@ -263,4 +264,45 @@ pub extern "C" fn threshowl_predict_merging(
         full_pixel,
         out,
     )
+}
+
+// Split prediction that merges its luma by quarters.
+#[no_mangle]
+pub extern "C" fn threshowl_predict_quarters(
+    y: &[u8],
+    u: &[u8],
+    v: &[u8],
+    y_stride: usize,
+    u_stride: usize,
+    v_stride: usize,
+    mb_cols: usize,
+    mb_rows: usize,
+    mb_col: usize,
+    mb_row: usize,
+    vectors: &[u8],
+    filter: u8,
+    full_pixel: u8,
+    out: &mut [u8],
+) -> u32
+    ensures { λ r. ⌜ Left (split (setOf filter) (fullPixel (flagOf «full_pixel»)) (lent (now (y .entry)) (now (u .entry)) (now (v .entry)) (record { «y_stride» = «y_stride»; «u_stride» = «u_stride»; «v_stride» = «v_stride»; «mb_cols» = «mb_cols»; «mb_rows» = «mb_rows» })) «mb_col» «mb_row» (vectorsOf (now (vectors .entry)))) (codesRefusal filter (length (now (vectors .entry)))) (now (out .entry)) r (now (out .exit)) ⌝ }
+{
+    let sizes = Sizes {
+        y_stride,
+        u_stride,
+        v_stride,
+        mb_cols,
+        mb_rows,
+    };
+    let p = predict_quarters(
+        y,
+        u,
+        v,
+        sizes,
+        mb_col,
+        mb_row,
+        mvs_of_bytes(vectors),
+        full_pixel != 0,
+        set_of(filter),
+    );
+    finish(p, codes_refusal(filter, vectors.len()), out)
 }

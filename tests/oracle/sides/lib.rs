@@ -13,23 +13,25 @@ use pictures::Picture;
 
 pub const SAMPLES: usize = 384;
 
-/// The form of prediction. The original has no merging: it is compared with
-/// the original's split prediction.
+/// The form of prediction. The original has no merging, and none by quarters:
+/// they are compared with the original's split prediction.
 #[derive(Clone, Copy, PartialEq, Debug)]
 pub enum Form {
     Whole,
     Split,
     Merging,
+    Quarters,
 }
 
 impl Form {
-    pub const ALL: [Form; 3] = [Form::Whole, Form::Split, Form::Merging];
+    pub const ALL: [Form; 4] = [Form::Whole, Form::Split, Form::Merging, Form::Quarters];
 
     pub fn name(self) -> &'static str {
         match self {
             Form::Whole => "whole",
             Form::Split => "split",
             Form::Merging => "merging",
+            Form::Quarters => "quarters",
         }
     }
 }
@@ -133,6 +135,12 @@ extern "C" {
         mb_cols: usize, mb_rows: usize, mb_col: usize, mb_row: usize,
         vectors: *const u8, vectors_len: usize, filter: u8, full_pixel: u8, out: *mut u8, out_len: usize,
     ) -> u32;
+    fn threshowl_predict_quarters(
+        y: *const u8, y_len: usize, u: *const u8, u_len: usize, v: *const u8, v_len: usize,
+        y_stride: usize, u_stride: usize, v_stride: usize,
+        mb_cols: usize, mb_rows: usize, mb_col: usize, mb_row: usize,
+        vectors: *const u8, vectors_len: usize, filter: u8, full_pixel: u8, out: *mut u8, out_len: usize,
+    ) -> u32;
 }
 
 /// The product's number; its samples go to `out`.
@@ -152,7 +160,11 @@ pub unsafe fn product(form: Form, call: &Call, out: *mut u8) -> u32 {
             mv.row, mv.col, c.filter, c.full_pixel, out, c.out_len,
         );
     }
-    let predict = if form == Form::Split { threshowl_predict_split } else { threshowl_predict_merging };
+    let predict = match form {
+        Form::Merging => threshowl_predict_merging,
+        Form::Quarters => threshowl_predict_quarters,
+        _ => threshowl_predict_split,
+    };
     predict(
         y, c.y.len(), u, c.u.len(), v, c.v.len(),
         c.y_stride, c.u_stride, c.v_stride, c.mb_cols, c.mb_rows, c.mb_col, c.mb_row,
@@ -213,7 +225,7 @@ pub fn original(form: Form, call: &Call) -> ReconstructedMb {
         Form::Whole => {
             motion_comp::predict_inter_mb(&planes, call.mb_col, call.mb_row, list[0], flag, table)
         }
-        Form::Split | Form::Merging => {
+        Form::Split | Form::Merging | Form::Quarters => {
             motion_comp::predict_split_mv(&planes, call.mb_col, call.mb_row, list, flag, table)
         }
     }

@@ -1,0 +1,98 @@
+-- `sided::sided_into` filters the halo, near or far, and puts the block in its place, whatever its side. Assumes nothing.
+use borrow.Author.Needs.{needs}
+use mathlib.Core.Path.{_≡_, refl}
+use mathlib.Core.List.{List}
+use Prim.Native.Nat.{ℕ, _+_, _*_, _≤_}
+use native.Mathlib.Nat.{mul-le-mul}
+use native.Mathlib.Omega.{arith}
+use lib.IntN.{ℤ}
+use lib.ListN.{length, replicate}
+use Rattle.rfc6386.specs.Picture.{Plane, image, square}
+use Rattle.rfc6386.specs.Laws.Raster.{row-fits}
+use Rattle.rfc6386.specs.Laws.Refusals.{PlaneAccepts, plane-accepts}
+use Rattle.rfc6386.specs.Laws.Samples.{Bytes}
+use Rattle.rfc6386.specs.Laws.Blocks.{image-bytes}
+use Rattle.steps.specs.Window.{windowList}
+use Rattle.steps.specs.Laws.Windows.{put-as}
+use Rattle.steps.specs.Laws.Parts.{side-most}
+use Rattle.blocks.specs.Places.{planeAt, HaloAt, haloStart, clampedRect}
+use Rattle.blocks.proofs.Squares.{corner-is}
+use Rattle.blocks.proofs.Fetches.{under-x, under-y}
+use Rattle.blocks.proofs.Windows.{way-mx, way-my, way-block, near-held, near-window}
+use Rattle.blocks.proofs.sided.sided_into.Statement.{statement}
+use Rattle.blocks.proofs.sided.sided_into.Tie as tie
+
+-- a clamped rectangle in front of a list is its window
+clamped-window : (n : ℕ) (p : Plane) (x y : ℤ) (d : List ℕ) {l : List ℕ} → n * n ≤ length d → l ≡ clampedRect p x y n n d → windowList n l 0 n ≡ square n (image p) x y
+unfolding windowList
+clamped-window n p x y d h e = corner-is p x y d (omega arith) (omega arith) h e
+
+accepts : (c : tie.Start) → let a = c .args in PlaneAccepts (planeAt (a .plane .now) (a .at)) (a .at .x) (a .at .y)
+accepts c = plane-accepts _ _ _ (c .pre .0)
+
+bytes : (c : tie.After-shared-slice-known) → let a = c .before .args in Bytes (image (planeAt (a .plane .now) (a .at)))
+bytes c = image-bytes _ (λ i. omega (arith, c .shared-slice-known .given i))
+
+inside : (c : tie.Then1) → let a = c .before .before .before .before .before .args in let f = c .before .find .result in HaloAt (a .at) (a .mv) (a .n + 5) (f .x) (f .y)
+inside c = c .before .find .ensures (c .if1 .taken)
+
+-- the room that a clamped halo takes
+few : (c : tie.Start) → (c .args .n + 5) * (c .args .n + 5) ≤ 441
+few c = let k : c .args .n + 5 ≤ 21 = omega (arith, side-most (c .pre .1 .0)) in mul-le-mul {n₂ = 21} {m₂ = 21} k k
+
+mul-t15 : tie.Need-mul-t15
+mul-t15 c = omega (arith, near-held (c .before .before .before .before .before .before .before .args .n) (accepts (c .before .before .before .before .before .before .before)) (inside (c .before .before)) 0 (omega arith))
+
+add-t16 : tie.Need-add-t16
+add-t16 c = omega (arith, near-held (c .before .before .before .before .before .before .before .before .args .n) (accepts (c .before .before .before .before .before .before .before .before)) (inside (c .before .before .before)) 0 (omega arith))
+
+filter-sided-requires : tie.Need-filter-sided-requires
+filter-sided-requires c κs =
+    let s = (c .before .before .before .before .before .before .before .before .before) in
+    let w = c .before .before .before .before .before .before .way-of .ensures in
+    (s .pre .1 .0, (near-held (s .args .n) (accepts s) (inside (c .before .before .before .before)), (way-mx (s .args .mv) _ w, (way-my (s .args .mv) _ w, s .pre .1 .1))))
+
+returns : tie.Need-returns
+returns c =
+    let s = (c .before .before .before .before .before .before .before .before .before .before .before .before) in
+    let a = s .args in
+    put-as _ _ _ _ (a .n) (c .before .before .filter-sided .ensures)
+    (way-block (a .n) (a .set) _ (a .at .x) (a .at .y) (a .mv) (bytes (c .before .before .before .before .before .before .before .before .before .before .before)) (c .before .before .before .before .before .before .before .before .before .way-of .ensures) (near-window (a .n) (accepts s) (inside (c .before .before .before .before .before .before .before))) refl)
+
+clamped-halo-requires : tie.Need-clamped-halo-requires
+clamped-halo-requires c κs = (c .before .before .before .before .before .before .pre .0, (side-most (c .before .before .before .before .before .before .pre .1 .0), few (c .before .before .before .before .before .before)))
+
+filter-sided-requires-2 : tie.Need-filter-sided-requires-2
+filter-sided-requires-2 c κs =
+    let s = (c .before .before .before .before .before .before .before .before .before .before) in
+    let m = s .args .n + 5 in
+    let w = c .before .before .before .before .before .before .before .way-of .ensures in
+    (s .pre .1 .0, (λ r h. omega (arith, row-fits r m m h, few s, c .before .before .before .clamped-halo .kept .1 .1 .1 .1 .0), (way-mx (s .args .mv) _ w, (way-my (s .args .mv) _ w, s .pre .1 .1))))
+
+returns-2 : tie.Need-returns-2
+returns-2 c =
+    let s = (c .before .before .before .before .before .before .before .before .before .before .before .before .before) in
+    let a = s .args in
+    put-as _ _ _ _ (a .n) (c .before .before .filter-sided2 .ensures)
+    (way-block (a .n) (a .set) _ (a .at .x) (a .at .y) (a .mv) (bytes (c .before .before .before .before .before .before .before .before .before .before .before .before)) (c .before .before .before .before .before .before .before .before .before .before .way-of .ensures)
+    (clamped-window (a .n + 5) (planeAt (a .plane .now) (a .at)) (haloStart (a .at .x) (a .mv .col)) (haloStart (a .at .y) (a .mv .row)) (replicate 441 0) (few s) (c .before .before .before .before .before .before .clamped-halo .ensures)) refl)
+
+pub sided-into-spec : {M : Type 1} → statement M
+sided-into-spec =
+    tie.close
+    (tie.spec
+    (λ c κs. search needs)
+    (λ c. omega (arith, side-most (c .before .before .before .pre .1 .0)))
+    (λ c κs. let A = accepts (c .before .before .before) in ((under-x A, under-y A), (A .width-most, A .height-most)))
+    mul-t15
+    add-t16
+    filter-sided-requires
+    (λ c. search needs)
+    returns
+    (λ c. search needs)
+    clamped-halo-requires
+    (λ c. omega (arith, side-most (c .before .before .before .before .before .before .before .before .pre .1 .0)))
+    (λ c. search needs)
+    filter-sided-requires-2
+    (λ c. search needs)
+    returns-2)
