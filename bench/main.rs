@@ -11,6 +11,7 @@
 // number of turns, it only makes that side's calls so often: bench/count has an
 // emulator count their instructions.
 
+mod finished;
 mod macroblocks;
 mod one_plane;
 mod stack;
@@ -196,6 +197,7 @@ fn main() -> ExitCode {
     let picture = Picture::new(Shows::Noise, geometry, (0, 0), &mut Random::new(4));
     let mut cases = macroblocks::cases(&picture);
     let of_macroblocks = cases.len();
+    cases.extend(finished::cases(&picture));
     cases.extend(one_plane::cases(&picture));
     let words: Vec<String> = std::env::args().skip(1).collect();
     match &words[..] {

@@ -6,9 +6,10 @@
  * It paints a rack's panel of three modules.  The left one has an unlit lamp,
  * the right one a lit red lamp, and the middle one is predicted: whole, split
  * and merged, once with a vector that merging may fetch whole and once with one
- * just outside the range, where only a careless decoder would.  It prints what
- * differs, provokes every number that a call gives back, and writes into FOLDER
- * pictures of what the desk would see.
+ * just outside the range, where only a careless decoder would.  Then it is
+ * predicted from the unlit lamp, and finished with a residue that lights it.  It
+ * prints what differs, provokes every number that a call gives back, and writes
+ * into FOLDER pictures of what the desk would see.
  *
  * Exit status: 0 when all is as the header says, 1 when something is not, 2 on
  * bad usage.  Stock C11, and C++17 as well.
@@ -431,6 +432,113 @@ static void show_lamps(const Picture *panel, const char *folder)
     write_shown(folder, "outside-merged.png", panel, &outside[MERGING]);
 }
 
+/* ---- The lamp finished: the unlit one's prediction, and a residue that lights it ---- */
+
+typedef struct {
+    int16_t numbers[THRESHOWL_COEFFICIENTS];
+    size_t count;
+    uint8_t skip;
+} Residue;
+
+/* Where the blocks of U and V begin. */
+enum { RESIDUE_U = 272, RESIDUE_V = 336 };
+
+/* The first number of a block adds an eighth of itself to each sample: from grey
+   to the lit lamp's red. */
+static Residue lighting(void)
+{
+    Residue r;
+    size_t i;
+    memset(&r, 0, sizeof r);
+    r.count = THRESHOWL_COEFFICIENTS;
+    for (i = 0; i < 4; i++) {
+        r.numbers[RESIDUE_U + 16 * i] = 8 * (90 - 128);
+        r.numbers[RESIDUE_V + 16 * i] = 8 * (240 - 128);
+    }
+    return r;
+}
+
+static uint32_t finish_whole(const Call *c, const Residue *r, Answer *a)
+{
+    const Picture *p = c->picture;
+    return threshowl_reconstruct_whole(p->y, c->y_len, p->u, c->u_len, p->v, c->v_len, c->y_stride,
+                                       c->u_stride, c->v_stride, c->mb_cols, c->mb_rows, c->mb_col,
+                                       c->mb_row, c->row, c->col, c->filter, c->full_pixel, r->skip,
+                                       r->numbers, r->count, a->bytes, c->out_len);
+}
+
+static uint32_t finish_whole_pixel(const Call *c, const Residue *r, Answer *a)
+{
+    const Picture *p = c->picture;
+    return threshowl_reconstruct_whole_pixel(p->y, c->y_len, p->u, c->u_len, p->v, c->v_len,
+                                             c->y_stride, c->u_stride, c->v_stride, c->mb_cols,
+                                             c->mb_rows, c->mb_col, c->mb_row, c->row, c->col,
+                                             c->full_pixel, r->skip, r->numbers, r->count, a->bytes,
+                                             c->out_len);
+}
+
+/* Split has no Y2: its coefficients are those after it. */
+static uint32_t finish_split(const Call *c, const Residue *r, Answer *a)
+{
+    const Picture *p = c->picture;
+    uint8_t vectors[THRESHOWL_VECTORS_LEN];
+    sixteen(c, vectors);
+    return threshowl_reconstruct_split(p->y, c->y_len, p->u, c->u_len, p->v, c->v_len, c->y_stride,
+                                       c->u_stride, c->v_stride, c->mb_cols, c->mb_rows, c->mb_col,
+                                       c->mb_row, vectors, c->vectors_len, c->filter, c->full_pixel,
+                                       r->skip, r->numbers + 16, r->count - 16, a->bytes, c->out_len);
+}
+
+typedef uint32_t Finish(const Call *, const Residue *, Answer *);
+
+static Finish *const finishes[] = {finish_whole, finish_whole_pixel, finish_split};
+
+enum { FINISHES = sizeof finishes / sizeof finishes[0] };
+
+/* The three calls in a row, each with what the residue makes of the lamp. */
+static void print_finished(const char *words, const Call *c, const Residue *r, Answer *a)
+{
+    size_t i;
+    printf("  %-36s", words);
+    for (i = 0; i < FINISHES; i++) {
+        const uint32_t number = finishes[i](c, r, a);
+        if (number == THRESHOWL_DONE)
+            printf(" %11s", lamp_colour(a));
+        else
+            printf(" %11u", (unsigned)number);
+    }
+    printf("\n");
+}
+
+static void show_finished(const Picture *panel, const char *folder)
+{
+    Call c = good_call(panel, 0, -64);
+    Residue r = lighting();
+    Answer predicted, finished, a;
+    expect(whole(&c, &predicted) == THRESHOWL_DONE, "a good call is done");
+    expect(finish_whole(&c, &r, &finished) == THRESHOWL_DONE, "a good call is done");
+    printf("The lamp predicted from the unlit one is %s, and finished it is %s:\n",
+           lamp_colour(&predicted), lamp_colour(&finished));
+    expect(strcmp(lamp_colour(&predicted), "grey") == 0, "the unlit lamp is grey");
+    expect(strcmp(lamp_colour(&finished), "red") == 0, "the residue lights it");
+    printf("  %-36s %11s %11s %11s\n", "", "whole", "whole pixel", "split");
+    print_finished("with its residue", &c, &r, &a);
+    expect(memcmp(&a, &finished, sizeof a) == 0, "whole and split give the same finished block");
+    r.skip = 1;
+    print_finished("with the skip flag", &c, &r, &a);
+    expect(memcmp(&a, &predicted, sizeof a) == 0, "skipped it is the prediction");
+    r.numbers[16] = 4096;
+    print_finished("skipped, a first Y number of 4096", &c, &r, &a);
+    r.skip = 0;
+    print_finished("a first Y number of 4096", &c, &r, &a);
+    r.numbers[17] = -4096;
+    print_finished("a second Y number of -4096", &c, &r, &a);
+    c.out_len--;
+    print_finished("and an output of 383 bytes", &c, &r, &a);
+    write_shown(folder, "predicted.png", panel, &predicted);
+    write_shown(folder, "finished.png", panel, &finished);
+}
+
 /* ---- Every number, from a call made to provoke it ---- */
 
 static void too_many_rows(Call *c) { c->mb_rows = 1025; }
@@ -622,6 +730,7 @@ int main(int argc, char **argv)
     }
     paint_panel(&panel);
     show_lamps(&panel, argv[1]);
+    show_finished(&panel, argv[1]);
     show_numbers(&panel);
     show_versions(&panel);
     printf(failures ? "Something is not as it should be.\n" : "All is as it should be.\n");

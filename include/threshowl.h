@@ -1,11 +1,13 @@
 /*
- * threshowl.h: VP8 inter prediction of one macroblock, for C11 and C++17.
+ * threshowl.h: VP8 inter prediction of one macroblock, and the decoded
+ * macroblock, for C11 and C++17.
  *
  * Four functions predict a macroblock from a reference picture: whole (one
  * vector), split (sixteen vectors), merging (sixteen vectors, taken for one
  * where all are equal and no picture could tell) and quarters (sixteen vectors,
  * of which equal ones are taken together in luma, by squares).  Two more do the
- * first two by the version number of a frame's tag.  Link libthreshowl.a.  It
+ * first two by the version number of a frame's tag, and three add the residue
+ * to a whole, a whole-pixel or a split prediction.  Link libthreshowl.a.  It
  * needs two symbols of the host, memcpy and memset as C has them, and no others.
  *
  *
@@ -119,9 +121,18 @@ enum {
     /* out_len is not 384. */
     THRESHOWL_BAD_OUT = 7,
 
+    /* A vector leaves a fraction of a pixel, in luma or in chroma.
+       threshowl_reconstruct_whole_pixel alone gives this number. */
+    THRESHOWL_FRACTION_LEFT = 8,
+
     /* version is above 3, whatever else is at fault.  The functions by version
        alone give this number. */
-    THRESHOWL_RESERVED_VERSION = 10
+    THRESHOWL_RESERVED_VERSION = 10,
+
+    /* coefficients_len is not what it should be; or, with skip off, a
+       coefficient lies beyond its range.  The functions that add the residue
+       alone give this number. */
+    THRESHOWL_BAD_COEFFICIENTS = 11
 };
 
 /*
@@ -214,6 +225,78 @@ uint32_t threshowl_predict_split_by_version(
     size_t mb_col, size_t mb_row,
     const uint8_t *vectors, size_t vectors_len,
     uint8_t version, uint8_t standard,
+    uint8_t *out, size_t out_len);
+
+/*
+ * Decoded macroblocks
+ *
+ * Three functions predict a macroblock and add its residue.  They take what the
+ * prediction takes, and:
+ *
+ * skip           0 for off; with any other value the coefficients are not looked
+ *                at, and out holds the prediction itself.
+ * coefficients   dequantised, 4x4 blocks one after the other, sixteen numbers
+ *                each in raster order: Y2, then sixteen blocks of Y, four of U
+ *                and four of V, 400 numbers in all.  Split has no Y2, and takes
+ *                384.  They are aligned as int16_t are, are only read, and out
+ *                does not overlap them.
+ *
+ * Y2 is transformed first, and what that gives stands in for the first number of
+ * each Y block: the one that is handed over there is not looked at.  Then each
+ * block is transformed (RFC 6386, sections 14.3 and 14.4; what a first pass leaves
+ * is not cut to sixteen bits), and added to the prediction, clamped to 0..255.
+ *
+ * Y2's numbers are from -16383 to 16383, all others from -4095 to 4095.  Another
+ * number, where it is looked at, is refused with 11, and so is another count than
+ * 400 or 384, with skip on as well.
+ */
+#define THRESHOWL_COEFFICIENTS 400
+#define THRESHOWL_SPLIT_COEFFICIENTS 384
+
+/*
+ * One vector.  Gives 0, 1, 2, 3, 4, 5, 7 or 11.
+ */
+uint32_t threshowl_reconstruct_whole(
+    const uint8_t *y, size_t y_len,
+    const uint8_t *u, size_t u_len,
+    const uint8_t *v, size_t v_len,
+    size_t y_stride, size_t u_stride, size_t v_stride,
+    size_t mb_cols, size_t mb_rows,
+    size_t mb_col, size_t mb_row,
+    int16_t mv_row, int16_t mv_col,
+    uint8_t filter, uint8_t full_pixel, uint8_t skip,
+    const int16_t *coefficients, size_t coefficients_len,
+    uint8_t *out, size_t out_len);
+
+/*
+ * One vector that leaves no fraction of a pixel in any plane.  Gives 0, 1, 2, 3, 4,
+ * 7, 8 or 11.
+ */
+uint32_t threshowl_reconstruct_whole_pixel(
+    const uint8_t *y, size_t y_len,
+    const uint8_t *u, size_t u_len,
+    const uint8_t *v, size_t v_len,
+    size_t y_stride, size_t u_stride, size_t v_stride,
+    size_t mb_cols, size_t mb_rows,
+    size_t mb_col, size_t mb_row,
+    int16_t mv_row, int16_t mv_col,
+    uint8_t full_pixel, uint8_t skip,
+    const int16_t *coefficients, size_t coefficients_len,
+    uint8_t *out, size_t out_len);
+
+/*
+ * A vector for each 4x4 luma block.  Gives 0 to 7, or 11.
+ */
+uint32_t threshowl_reconstruct_split(
+    const uint8_t *y, size_t y_len,
+    const uint8_t *u, size_t u_len,
+    const uint8_t *v, size_t v_len,
+    size_t y_stride, size_t u_stride, size_t v_stride,
+    size_t mb_cols, size_t mb_rows,
+    size_t mb_col, size_t mb_row,
+    const uint8_t *vectors, size_t vectors_len,
+    uint8_t filter, uint8_t full_pixel, uint8_t skip,
+    const int16_t *coefficients, size_t coefficients_len,
     uint8_t *out, size_t out_len);
 
 /*

@@ -126,6 +126,56 @@ static int split_by_version(void)
     return predicted(threshowl_predict_split_by_version(PICTURE, VECTORS, 2, 1, out, sizeof out));
 }
 
+/* ---- Decoded macroblocks: the same, with the residue added ---- */
+
+static int16_t coefficients[THRESHOWL_COEFFICIENTS];
+
+/* What is due where Y2 adds two to each sample of Y, and the first number of each
+   block of U and V takes three from it. */
+static void add_residue(void)
+{
+    size_t i;
+    coefficients[0] = 2 * 8 * 8;
+    for (i = 0; i < 256; i++) {
+        due[i] = (uint8_t)(due[i] < 253 ? due[i] + 2 : 255);
+    }
+    for (i = 0; i < 8; i++) {
+        coefficients[272 + 16 * i] = -3 * 8;
+    }
+    for (i = 256; i < THRESHOWL_OUT_LEN; i++) {
+        due[i] = (uint8_t)(due[i] < 3 ? 0 : due[i] - 3);
+    }
+}
+
+static int reconstruct_whole(void)
+{
+    add_residue();
+    return predicted(threshowl_reconstruct_whole(PICTURE, 0, COL, THRESHOWL_BILINEAR, 0, 0, coefficients,
+                                                 THRESHOWL_COEFFICIENTS, out, sizeof out));
+}
+
+/* What Y2 gave is here each block's own first number. */
+static int reconstruct_split(void)
+{
+    size_t i;
+    for (i = 0; i < 16; i++) {
+        coefficients[16 + 16 * i] = 2 * 8;
+    }
+    return predicted(threshowl_reconstruct_split(PICTURE, VECTORS, THRESHOWL_BILINEAR, 0, 0, coefficients + 16,
+                                                 THRESHOWL_SPLIT_COEFFICIENTS, out, sizeof out));
+}
+
+/* Chroma is moved by half a pixel: full-pixel alone leaves no fraction. */
+static int reconstruct_whole_pixel(void)
+{
+    uint32_t number = threshowl_reconstruct_whole_pixel(PICTURE, 0, COL, 0, 0, coefficients,
+                                                        THRESHOWL_COEFFICIENTS, out, sizeof out);
+    return number == THRESHOWL_FRACTION_LEFT
+           && threshowl_reconstruct_whole_pixel(PICTURE, 0, COL, 1, 0, coefficients, THRESHOWL_COEFFICIENTS,
+                                                out, sizeof out) == THRESHOWL_DONE
+           && same(out, due, 256);
+}
+
 /* ---- Recordings: a complete frame, then five bytes of another ---- */
 
 static int mend(void)
@@ -172,7 +222,8 @@ static int frame(void)
 
 /* ---- Where the program begins and ends (Linux, x86-64) ---- */
 
-static int (*const calls[])(void) = {whole, split, merging, quarters, whole_by_version, split_by_version, mend, header, frame};
+static int (*const calls[])(void) = {whole, split, merging, quarters, whole_by_version, split_by_version,
+                                    reconstruct_whole, reconstruct_split, reconstruct_whole_pixel, mend, header, frame};
 
 int run(void);
 

@@ -2,6 +2,7 @@
 // Prints what was compared; exit status 1 where anything differs.
 
 mod drafts;
+mod finished;
 mod jobs;
 mod refusals;
 #[cfg(shims)]
@@ -15,6 +16,7 @@ use tally::Total;
 fn main() -> ExitCode {
     let mut list = sweeps::jobs();
     list.extend(refusals::jobs());
+    list.extend(finished::jobs());
     #[cfg(shims)]
     list.extend(shims::jobs());
 

@@ -207,7 +207,7 @@ fn near(random: &mut Random) -> i16 {
     random.within(-48, 48) as i16
 }
 
-fn near_vector(random: &mut Random) -> Mv {
+pub fn near_vector(random: &mut Random) -> Mv {
     Mv {
         row: near(random),
         col: near(random),

@@ -18,6 +18,8 @@ pub const ROOM: u32 = 7;
 pub const FRACTION: u32 = 8;
 // a version that is reserved, or cannot be
 pub const VERSION: u32 = 10;
+// a coefficient outside the domain
+pub const DOMAIN: u32 = 11;
 // not the header of a Y4M file
 pub const HEADER: u32 = 12;
 // not the mark of a Y4M frame

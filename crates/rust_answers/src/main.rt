@@ -3,6 +3,7 @@
 // `tests/oracle/record PATH-TO-RUST-SRC crates/rust_answers/data/answers.bin`, which makes the same file again.
 mod alone;
 mod ending;
+mod finished;
 mod macroblocks;
 mod planes;
 mod replay;

@@ -1,5 +1,6 @@
 // Goes through the file, record by record.
 use crate::alone;
+use crate::finished;
 use crate::macroblocks;
 use crate::planes;
 use crate::planes::Plane;
@@ -67,6 +68,9 @@ fn length_of(kind: u8) -> usize {
         23 => 392,
         24 => 393,
         25 => 453,
+        29 => 1193,
+        30 => 1193,
+        31 => 1253,
         _ => 0,
     }
 }
@@ -128,22 +132,20 @@ fn held(file: &[u8], kind: u8, r: &[u8], s: State) -> Tally {
         mb_cols: y.w / 16,
         mb_rows: y.h / 16,
     };
-    macroblocks::held(
-        kind,
-        of_y,
-        planes::bytes_of(file, u),
-        planes::bytes_of(file, v),
-        sizes,
-        r,
-        t,
-    )
+    let of_u = planes::bytes_of(file, u);
+    let of_v = planes::bytes_of(file, v);
+    if kind < 26 {
+        return macroblocks::held(kind, of_y, of_u, of_v, sizes, r, t);
+    }
+    let same = finished::agrees(kind, of_y, of_u, of_v, sizes, r);
+    counted(t, kind as usize, same)
 }
 
 fn turn(file: &[u8], s: State) -> State {
     let kind = byte_at(file, s.at);
     let from = wrapping_add_usize(s.at, 1);
     let mut next = s;
-    if kind == 0 || 25 < kind {
+    if kind == 0 || 31 < kind {
         next.is_over = true;
         return next;
     }

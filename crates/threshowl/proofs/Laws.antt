@@ -92,7 +92,7 @@ put-three y u v o o₁ o₂ o₃ hy hu hv ho e₁ e₂ e₃ =
     ∙ append-assoc y u v
 
 -- ---- how a call ends
-zeros : (n m : ℕ) → orElse n m ≡ 0 → m ≡ 0
+pub zeros : (n m : ℕ) → orElse n m ≡ 0 → m ≡ 0
 zeros zero m e = e
 zeros (suc n) m e = absurd (omega arith)
 

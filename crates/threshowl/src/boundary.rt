@@ -20,7 +20,7 @@ use rfc6386::Mv;
 use rfc6386::Prediction;
 use rfc6386::Sizes;
 
-fn set_of(filter: u8) -> FilterSet
+pub fn set_of(filter: u8) -> FilterSet
     ensures { λ r. ⌜ r ≡ setOf filter ⌝ }
 {
     if filter == 0 {
@@ -29,7 +29,7 @@ fn set_of(filter: u8) -> FilterSet
     FilterSet::Bilinear
 }
 
-fn codes_refusal(filter: u8, count: usize) -> u32
+pub fn codes_refusal(filter: u8, count: usize) -> u32
     ensures { λ r. ⌜ r ≡ codesRefusal filter count ⌝ }
 {
     let code = code_refusal(filter);

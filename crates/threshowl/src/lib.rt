@@ -1,6 +1,7 @@
-// The library that a C program links: prediction, the mending of recordings, and YUV4MPEG2 files, over numbers and bytes.
+// The library that a C program links: prediction, decoded macroblocks, the mending of recordings, and YUV4MPEG2 files, over numbers and bytes.
 pub mod boundary;
 pub mod by_version;
+pub mod finished;
 mod output;
 pub mod pictures;
 pub mod recordings;

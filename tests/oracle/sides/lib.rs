@@ -1,6 +1,7 @@
 // The two sides of a comparison: a call's arguments written once, and the
 // product's C functions and the original's Rust functions called with them.
 
+pub mod finished;
 pub mod one_plane;
 pub mod pictures;
 pub mod random;

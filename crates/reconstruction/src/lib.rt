@@ -1,0 +1,13 @@
+// The decoded macroblock: a prediction of `prediction` with the residue added, on plain slices. The coefficients are lent as one list, 400 of them or
+// 384: as `threshowl` takes them from C.
+mod finish;
+mod reconstruct;
+
+// a prediction finished
+pub use finish::finish_split;
+pub use finish::finish_whole;
+
+// the three calls
+pub use reconstruct::reconstruct_inter_mb;
+pub use reconstruct::reconstruct_inter_mb_whole_pixel;
+pub use reconstruct::reconstruct_split_mv_mb;
