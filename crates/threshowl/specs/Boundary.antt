@@ -7,9 +7,10 @@ use lib.Dec.{ltb, eqb}
 use lib.ListN.{length, getD, replicate}
 use lib.IntN.{ℤ, pos}
 use Rattle.rfc6386.specs.Number.{wrap16}
-use Rattle.rfc6386.specs.Vector.{zeroVector}
+use Rattle.rfc6386.specs.Vector.{zeroVector, fullPixel}
 use Rattle.rfc6386.specs.Raster.{tab}
 use Rattle.rfc6386.specs.Refusal.{orElse, ifDone, codeRefusal, countRefusal, roomRefusal}
+use Rattle.rfc6386.specs.Macroblock.{Reference, lent, whole, split}
 use Rattle.rfc6386.specs.declared.Mv.{Mv}
 use Rattle.rfc6386.specs.declared.FilterSet.{FilterSet}
 use Rattle.rfc6386.specs.declared.FilterSet.the-variants.{Sixtap, Bilinear}
@@ -43,6 +44,19 @@ vectorAt b i =
 -- sixteen of them, and zeros where there are not 64 bytes
 unfoldable pub vectorsOf : List ℕ → List Mv
 vectorsOf b = ifDone (countRefusal 64 (length b)) (tab 16 (vectorAt b)) (replicate 16 zeroVector)
+
+-- ---- the prediction that a call asks for
+-- the picture that is lent: three planes, the stride of each, and how many macroblocks it has
+abbrev pub pictureOf : List ℕ → List ℕ → List ℕ → ℕ → ℕ → ℕ → ℕ → ℕ → Reference
+pictureOf y u v ys us vs cols rows =
+    lent y u v (record { «y_stride» = ys; «u_stride» = us; «v_stride» = vs; «mb_cols» = cols; «mb_rows» = rows })
+
+-- by codes: whole, of a row and a column, and split, of sixteen vectors as bytes
+abbrev pub wholeBy : ℕ → ℕ → Reference → ℕ → ℕ → ℤ → ℤ → Prediction
+wholeBy filter full ref mb-col mb-row row col = whole (setOf filter) (fullPixel (flagOf full)) ref mb-col mb-row (record { row = row; col = col })
+
+abbrev pub splitBy : ℕ → ℕ → Reference → ℕ → ℕ → List ℕ → Prediction
+splitBy filter full ref mb-col mb-row vectors = split (setOf filter) (fullPixel (flagOf full)) ref mb-col mb-row (vectorsOf vectors)
 
 -- ---- the output
 -- the samples of a macroblock one after the other

@@ -1,10 +1,9 @@
 // Prediction for C: numbers, bytes, and an output of 384 bytes that a refused call leaves as it was. A slice is a pointer and a length.
 ghost use mathlib.Core.Path.{_≡_};
 ghost use lib.ListN.{length};
-ghost use Rattle.rfc6386.specs.Vector.{fullPixel};
 ghost use Rattle.rfc6386.specs.Macroblock.{lent, whole, split};
 ghost use Rattle.rfc6386.specs.Refusal.{codeRefusal};
-ghost use Rattle.threshowl.specs.Boundary.{setOf, flagOf, codesRefusal, vectorsOf, Left};
+ghost use Rattle.threshowl.specs.Boundary.{setOf, codesRefusal, pictureOf, wholeBy, splitBy, Left};
 use crate::output::write_samples;
 use crate::vectors::mvs_of_bytes;
 use motion_vectors::are_one;
@@ -134,7 +133,7 @@ pub extern "C" fn threshowl_predict_whole(
     full_pixel: u8,
     out: &mut [u8],
 ) -> u32
-    ensures { λ r. ⌜ Left (whole (setOf filter) (fullPixel (flagOf «full_pixel»)) (lent (now (y .entry)) (now (u .entry)) (now (v .entry)) (record { «y_stride» = «y_stride»; «u_stride» = «u_stride»; «v_stride» = «v_stride»; «mb_cols» = «mb_cols»; «mb_rows» = «mb_rows» })) «mb_col» «mb_row» (record { row = «mv_row»; col = «mv_col» })) (codeRefusal filter) (now (out .entry)) r (now (out .exit)) ⌝ }
+    ensures { λ r. ⌜ Left (wholeBy filter «full_pixel» (pictureOf (now (y .entry)) (now (u .entry)) (now (v .entry)) «y_stride» «u_stride» «v_stride» «mb_cols» «mb_rows») «mb_col» «mb_row» «mv_row» «mv_col») (codeRefusal filter) (now (out .entry)) r (now (out .exit)) ⌝ }
 {
     let sizes = Sizes {
         y_stride,
@@ -181,7 +180,7 @@ pub extern "C" fn threshowl_predict_split(
     full_pixel: u8,
     out: &mut [u8],
 ) -> u32
-    ensures { λ r. ⌜ Left (split (setOf filter) (fullPixel (flagOf «full_pixel»)) (lent (now (y .entry)) (now (u .entry)) (now (v .entry)) (record { «y_stride» = «y_stride»; «u_stride» = «u_stride»; «v_stride» = «v_stride»; «mb_cols» = «mb_cols»; «mb_rows» = «mb_rows» })) «mb_col» «mb_row» (vectorsOf (now (vectors .entry)))) (codesRefusal filter (length (now (vectors .entry)))) (now (out .entry)) r (now (out .exit)) ⌝ }
+    ensures { λ r. ⌜ Left (splitBy filter «full_pixel» (pictureOf (now (y .entry)) (now (u .entry)) (now (v .entry)) «y_stride» «u_stride» «v_stride» «mb_cols» «mb_rows») «mb_col» «mb_row» (now (vectors .entry))) (codesRefusal filter (length (now (vectors .entry)))) (now (out .entry)) r (now (out .exit)) ⌝ }
 {
     let sizes = Sizes {
         y_stride,
@@ -225,7 +224,7 @@ pub extern "C" fn threshowl_predict_merging(
     full_pixel: u8,
     out: &mut [u8],
 ) -> u32
-    ensures { λ r. ⌜ Left (split (setOf filter) (fullPixel (flagOf «full_pixel»)) (lent (now (y .entry)) (now (u .entry)) (now (v .entry)) (record { «y_stride» = «y_stride»; «u_stride» = «u_stride»; «v_stride» = «v_stride»; «mb_cols» = «mb_cols»; «mb_rows» = «mb_rows» })) «mb_col» «mb_row» (vectorsOf (now (vectors .entry)))) (codesRefusal filter (length (now (vectors .entry)))) (now (out .entry)) r (now (out .exit)) ⌝ }
+    ensures { λ r. ⌜ Left (splitBy filter «full_pixel» (pictureOf (now (y .entry)) (now (u .entry)) (now (v .entry)) «y_stride» «u_stride» «v_stride» «mb_cols» «mb_rows») «mb_col» «mb_row» (now (vectors .entry))) (codesRefusal filter (length (now (vectors .entry)))) (now (out .entry)) r (now (out .exit)) ⌝ }
 {
     let mvs = mvs_of_bytes(vectors);
     if vectors.len() == 64 && are_one(mvs) {
@@ -284,7 +283,7 @@ pub extern "C" fn threshowl_predict_quarters(
     full_pixel: u8,
     out: &mut [u8],
 ) -> u32
-    ensures { λ r. ⌜ Left (split (setOf filter) (fullPixel (flagOf «full_pixel»)) (lent (now (y .entry)) (now (u .entry)) (now (v .entry)) (record { «y_stride» = «y_stride»; «u_stride» = «u_stride»; «v_stride» = «v_stride»; «mb_cols» = «mb_cols»; «mb_rows» = «mb_rows» })) «mb_col» «mb_row» (vectorsOf (now (vectors .entry)))) (codesRefusal filter (length (now (vectors .entry)))) (now (out .entry)) r (now (out .exit)) ⌝ }
+    ensures { λ r. ⌜ Left (splitBy filter «full_pixel» (pictureOf (now (y .entry)) (now (u .entry)) (now (v .entry)) «y_stride» «u_stride» «v_stride» «mb_cols» «mb_rows») «mb_col» «mb_row» (now (vectors .entry))) (codesRefusal filter (length (now (vectors .entry)))) (now (out .entry)) r (now (out .exit)) ⌝ }
 {
     let sizes = Sizes {
         y_stride,

@@ -2,10 +2,9 @@
 // reserved number is refused with 10, before every other test. `standard` chooses what full-pixel lowers: with 0 luma and chroma, with any
 // other value chroma alone.
 ghost use lib.ListN.{length};
-ghost use Rattle.rfc6386.specs.Macroblock.{lent};
 ghost use Rattle.rfc6386.specs.Version.{wholeByVersion, splitByVersion};
 ghost use Rattle.rfc6386.specs.Refusal.{countRefusal};
-ghost use Rattle.threshowl.specs.Boundary.{flagOf, vectorsOf, Left};
+ghost use Rattle.threshowl.specs.Boundary.{flagOf, vectorsOf, pictureOf, Left};
 use crate::boundary::split_into;
 use crate::boundary::whole_into;
 use crate::vectors::mvs_of_bytes;
@@ -34,7 +33,7 @@ pub extern "C" fn threshowl_predict_whole_by_version(
     standard: u8,
     out: &mut [u8],
 ) -> u32
-    ensures { λ r. ⌜ Left (wholeByVersion version (flagOf standard) (lent (now (y .entry)) (now (u .entry)) (now (v .entry)) (record { «y_stride» = «y_stride»; «u_stride» = «u_stride»; «v_stride» = «v_stride»; «mb_cols» = «mb_cols»; «mb_rows» = «mb_rows» })) «mb_col» «mb_row» (record { row = «mv_row»; col = «mv_col» })) 0 (now (out .entry)) r (now (out .exit)) ⌝ }
+    ensures { λ r. ⌜ Left (wholeByVersion version (flagOf standard) (pictureOf (now (y .entry)) (now (u .entry)) (now (v .entry)) «y_stride» «u_stride» «v_stride» «mb_cols» «mb_rows») «mb_col» «mb_row» (record { row = «mv_row»; col = «mv_col» })) 0 (now (out .entry)) r (now (out .exit)) ⌝ }
 {
     let profile = profile_for_version(version);
     if profile.reserved {
@@ -85,7 +84,7 @@ pub extern "C" fn threshowl_predict_split_by_version(
     standard: u8,
     out: &mut [u8],
 ) -> u32
-    ensures { λ r. ⌜ Left (splitByVersion version (flagOf standard) (lent (now (y .entry)) (now (u .entry)) (now (v .entry)) (record { «y_stride» = «y_stride»; «u_stride» = «u_stride»; «v_stride» = «v_stride»; «mb_cols» = «mb_cols»; «mb_rows» = «mb_rows» })) «mb_col» «mb_row» (vectorsOf (now (vectors .entry)))) (countRefusal 64 (length (now (vectors .entry)))) (now (out .entry)) r (now (out .exit)) ⌝ }
+    ensures { λ r. ⌜ Left (splitByVersion version (flagOf standard) (pictureOf (now (y .entry)) (now (u .entry)) (now (v .entry)) «y_stride» «u_stride» «v_stride» «mb_cols» «mb_rows») «mb_col» «mb_row» (vectorsOf (now (vectors .entry)))) (countRefusal 64 (length (now (vectors .entry)))) (now (out .entry)) r (now (out .exit)) ⌝ }
 {
     let profile = profile_for_version(version);
     if profile.reserved {

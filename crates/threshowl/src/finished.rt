@@ -4,10 +4,10 @@ ghost use mathlib.Core.Path.{_≡_};
 ghost use lib.ListN.{length};
 ghost use Rattle.rfc6386.specs.Vector.{fullPixel};
 ghost use Rattle.rfc6386.specs.Refusal.{orElse, codeRefusal, roomRefusal};
-ghost use Rattle.rfc6386.specs.Macroblock.{lent, whole, split, fractionLeft};
+ghost use Rattle.rfc6386.specs.Macroblock.{fractionLeft};
 ghost use Rattle.residue.specs.Coefficients as coefficient;
 ghost use Rattle.residue.specs.Coefficients.{wholeRefusal, splitRefusal};
-ghost use Rattle.threshowl.specs.Boundary.{setOf, flagOf, codesRefusal, vectorsOf};
+ghost use Rattle.threshowl.specs.Boundary.{flagOf, codesRefusal, pictureOf, wholeBy, splitBy};
 ghost use Rattle.threshowl.specs.Finished.{Finishes, pixelsAt, finishedBytes};
 use crate::boundary::codes_refusal;
 use crate::boundary::set_of;
@@ -90,7 +90,7 @@ pub extern "C" fn threshowl_reconstruct_whole(
     coefficients: &[i16],
     out: &mut [u8],
 ) -> u32
-    ensures { λ r. ⌜ Finishes (whole (setOf filter) (fullPixel (flagOf «full_pixel»)) (lent (now (y .entry)) (now (u .entry)) (now (v .entry)) (record { «y_stride» = «y_stride»; «u_stride» = «u_stride»; «v_stride» = «v_stride»; «mb_cols» = «mb_cols»; «mb_rows» = «mb_rows» })) «mb_col» «mb_row» (record { row = «mv_row»; col = «mv_col» })) (codeRefusal filter) (wholeRefusal (flagOf skip) (now (coefficients .entry))) (flagOf skip) (coefficient.seeded (now (coefficients .entry))) (now (out .entry)) r (now (out .exit)) ⌝ }
+    ensures { λ r. ⌜ Finishes (wholeBy filter «full_pixel» (pictureOf (now (y .entry)) (now (u .entry)) (now (v .entry)) «y_stride» «u_stride» «v_stride» «mb_cols» «mb_rows») «mb_col» «mb_row» «mv_row» «mv_col») (codeRefusal filter) (wholeRefusal (flagOf skip) (now (coefficients .entry))) (flagOf skip) (coefficient.seeded (now (coefficients .entry))) (now (out .entry)) r (now (out .exit)) ⌝ }
 {
     let sizes = Sizes {
         y_stride,
@@ -146,7 +146,7 @@ pub extern "C" fn threshowl_reconstruct_whole_pixel(
     coefficients: &[i16],
     out: &mut [u8],
 ) -> u32
-    ensures { λ r. ⌜ Finishes (pixelsAt (fullPixel (flagOf «full_pixel»)) (lent (now (y .entry)) (now (u .entry)) (now (v .entry)) (record { «y_stride» = «y_stride»; «u_stride» = «u_stride»; «v_stride» = «v_stride»; «mb_cols» = «mb_cols»; «mb_rows» = «mb_rows» })) «mb_col» «mb_row» (record { row = «mv_row»; col = «mv_col» })) 0 (orElse (fractionLeft (fullPixel (flagOf «full_pixel»)) (record { row = «mv_row»; col = «mv_col» })) (wholeRefusal (flagOf skip) (now (coefficients .entry)))) (flagOf skip) (coefficient.seeded (now (coefficients .entry))) (now (out .entry)) r (now (out .exit)) ⌝ }
+    ensures { λ r. ⌜ Finishes (pixelsAt (fullPixel (flagOf «full_pixel»)) (pictureOf (now (y .entry)) (now (u .entry)) (now (v .entry)) «y_stride» «u_stride» «v_stride» «mb_cols» «mb_rows») «mb_col» «mb_row» (record { row = «mv_row»; col = «mv_col» })) 0 (orElse (fractionLeft (fullPixel (flagOf «full_pixel»)) (record { row = «mv_row»; col = «mv_col» })) (wholeRefusal (flagOf skip) (now (coefficients .entry)))) (flagOf skip) (coefficient.seeded (now (coefficients .entry))) (now (out .entry)) r (now (out .exit)) ⌝ }
 {
     let sizes = Sizes {
         y_stride,
@@ -203,7 +203,7 @@ pub extern "C" fn threshowl_reconstruct_split(
     coefficients: &[i16],
     out: &mut [u8],
 ) -> u32
-    ensures { λ r. ⌜ Finishes (split (setOf filter) (fullPixel (flagOf «full_pixel»)) (lent (now (y .entry)) (now (u .entry)) (now (v .entry)) (record { «y_stride» = «y_stride»; «u_stride» = «u_stride»; «v_stride» = «v_stride»; «mb_cols» = «mb_cols»; «mb_rows» = «mb_rows» })) «mb_col» «mb_row» (vectorsOf (now (vectors .entry)))) (codesRefusal filter (length (now (vectors .entry)))) (splitRefusal (flagOf skip) (now (coefficients .entry))) (flagOf skip) (now (coefficients .entry)) (now (out .entry)) r (now (out .exit)) ⌝ }
+    ensures { λ r. ⌜ Finishes (splitBy filter «full_pixel» (pictureOf (now (y .entry)) (now (u .entry)) (now (v .entry)) «y_stride» «u_stride» «v_stride» «mb_cols» «mb_rows») «mb_col» «mb_row» (now (vectors .entry))) (codesRefusal filter (length (now (vectors .entry)))) (splitRefusal (flagOf skip) (now (coefficients .entry))) (flagOf skip) (now (coefficients .entry)) (now (out .entry)) r (now (out .exit)) ⌝ }
 {
     let sizes = Sizes {
         y_stride,
