@@ -2,25 +2,24 @@
 //! and what is written is lent alone; beyond that the C functions take every value.
 //!
 //! A further function of the header is declared here, and offered by the module that it belongs to: predictions by `prediction`,
-//! and under the original's name by `motion_comp` where it has one. A prediction of the same shape is one line of `predictions!`.
+//! those that add the residue by `reconstruction`, and both under the original's name by `motion_comp` where it has one. A
+//! prediction is one entry of `predictions!`.
 
 use crate::motion_vector::Mv;
 use crate::prediction::{Picture, Position};
 
-/// A prediction has the picture and the position before its own vectors, and two codes and the output after them.
+/// A prediction has the picture and the position before what is its own, and the output after that.
 macro_rules! predictions {
-    ($($name:ident = $symbol:ident($given:ident: $type:ty => $($handed:expr => $c:ty),*);)*) => {
+    ($($name:ident($($given:ident: $type:ty),*) = $symbol:ident($($handed:expr => $c:ty),*);)*) => {
         extern "C" {
             $(fn $symbol(
                 y: *const u8, y_len: usize, u: *const u8, u_len: usize, v: *const u8, v_len: usize,
                 y_stride: usize, u_stride: usize, v_stride: usize,
                 mb_cols: usize, mb_rows: usize, mb_col: usize, mb_row: usize,
-                $(_: $c,)* first_code: u8, second_code: u8, out: *mut u8, out_len: usize,
+                $(_: $c,)* out: *mut u8, out_len: usize,
             ) -> u32;)*
         }
-        $(pub(crate) fn $name(
-            picture: &Picture<'_>, at: Position, $given: $type, codes: (u8, u8), out: &mut [u8; 384],
-        ) -> u32 {
+        $(pub(crate) fn $name(picture: &Picture<'_>, at: Position, $($given: $type,)* out: &mut [u8; 384]) -> u32 {
             let Picture { y, u, v, .. } = *picture;
             // SAFETY: as the head of this file says.
             unsafe {
@@ -28,7 +27,7 @@ macro_rules! predictions {
                     y.as_ptr(), y.len(), u.as_ptr(), u.len(), v.as_ptr(), v.len(),
                     picture.y_stride, picture.u_stride, picture.v_stride,
                     picture.mb_cols, picture.mb_rows, at.mb_col, at.mb_row,
-                    $($handed,)* codes.0, codes.1, out.as_mut_ptr(), out.len(),
+                    $($handed,)* out.as_mut_ptr(), out.len(),
                 )
             }
         })*
@@ -36,12 +35,27 @@ macro_rules! predictions {
 }
 
 predictions! {
-    whole = threshowl_predict_whole(mv: Mv => mv.row => i16, mv.col => i16);
-    whole_by_version = threshowl_predict_whole_by_version(mv: Mv => mv.row => i16, mv.col => i16);
-    split = threshowl_predict_split(vectors: &[u8; 64] => vectors.as_ptr() => *const u8, vectors.len() => usize);
-    split_by_version =
-        threshowl_predict_split_by_version(vectors: &[u8; 64] => vectors.as_ptr() => *const u8, vectors.len() => usize);
-    merging = threshowl_predict_merging(vectors: &[u8; 64] => vectors.as_ptr() => *const u8, vectors.len() => usize);
+    whole(mv: Mv, codes: [u8; 2]) = threshowl_predict_whole(
+        mv.row => i16, mv.col => i16, codes[0] => u8, codes[1] => u8);
+    whole_by_version(mv: Mv, codes: [u8; 2]) = threshowl_predict_whole_by_version(
+        mv.row => i16, mv.col => i16, codes[0] => u8, codes[1] => u8);
+    split(vectors: &[u8; 64], codes: [u8; 2]) = threshowl_predict_split(
+        vectors.as_ptr() => *const u8, vectors.len() => usize, codes[0] => u8, codes[1] => u8);
+    split_by_version(vectors: &[u8; 64], codes: [u8; 2]) = threshowl_predict_split_by_version(
+        vectors.as_ptr() => *const u8, vectors.len() => usize, codes[0] => u8, codes[1] => u8);
+    merging(vectors: &[u8; 64], codes: [u8; 2]) = threshowl_predict_merging(
+        vectors.as_ptr() => *const u8, vectors.len() => usize, codes[0] => u8, codes[1] => u8);
+    quarters(vectors: &[u8; 64], codes: [u8; 2]) = threshowl_predict_quarters(
+        vectors.as_ptr() => *const u8, vectors.len() => usize, codes[0] => u8, codes[1] => u8);
+    finished_whole(mv: Mv, codes: [u8; 3], numbers: &[i16]) = threshowl_reconstruct_whole(
+        mv.row => i16, mv.col => i16, codes[0] => u8, codes[1] => u8, codes[2] => u8,
+        numbers.as_ptr() => *const i16, numbers.len() => usize);
+    finished_whole_pixel(mv: Mv, codes: [u8; 2], numbers: &[i16]) = threshowl_reconstruct_whole_pixel(
+        mv.row => i16, mv.col => i16, codes[0] => u8, codes[1] => u8,
+        numbers.as_ptr() => *const i16, numbers.len() => usize);
+    finished_split(vectors: &[u8; 64], codes: [u8; 3], numbers: &[i16]) = threshowl_reconstruct_split(
+        vectors.as_ptr() => *const u8, vectors.len() => usize, codes[0] => u8, codes[1] => u8, codes[2] => u8,
+        numbers.as_ptr() => *const i16, numbers.len() => usize);
 }
 
 extern "C" {

@@ -1,12 +1,13 @@
 //! VP8 inter prediction by `libthreshowl.a`, whose functions are proved, for Rust.
 //!
 //! [`motion_comp`] has the calls and types of the module of that name of OxideAV/oxideav-vp8, so that a decoder swaps it for this
-//! one. [`prediction`] has what the original has not: refusals as values, a stride for each plane, merging, and prediction by a
-//! frame's version. [`ivf`] mends recordings that were cut, [`y4m`] reads and writes the frames of YUV4MPEG2 files.
+//! one. [`prediction`] has what the original has not: refusals as values, a stride for each plane, merging, whole or by quarters,
+//! and prediction by a frame's version; [`reconstruction`] finishes macroblocks so. [`ivf`] mends recordings that were cut, [`y4m`]
+//! reads and writes the frames of YUV4MPEG2 files.
 //!
 //! Nothing is allocated and no state is kept: any number of threads may call. What a call may refuse is a [`Refusal`], which has
-//! the number of the C header and its words. What types can rule out is ruled out by them: the calls of prediction take a table by
-//! name, sixteen vectors and a record of 384 samples, and so never give the numbers 5, 6 and 7.
+//! the number of the C header and its words. What types can rule out is ruled out by them: the calls of prediction, and those that
+//! finish, take a table by name, sixteen vectors and a record of 384 samples, and so never give the numbers 5, 6 and 7.
 //!
 //! # Swapping `motion_comp`
 //!
@@ -33,7 +34,7 @@
 //! #[path = "FOLDER/bindings/rust/src/motion_comp.rs"] pub mod motion_comp;
 //! ```
 //!
-//! [`motion_comp`] lists what of the original is not there yet, or stays with the decoder.
+//! [`motion_comp`] lists what of the original is not there, or stays with the decoder.
 #![deny(missing_docs)]
 #![deny(unsafe_op_in_unsafe_fn)]
 
@@ -45,6 +46,7 @@ pub mod motion_comp;
 pub mod motion_vector;
 pub mod prediction;
 pub mod reconstruct;
+pub mod reconstruction;
 pub mod tables;
 pub mod y4m;
 

@@ -1,27 +1,44 @@
 //! The calls and types of `motion_comp` of OxideAV/oxideav-vp8, under their names and with their parameters.
 //!
-//! Predictions are made by `libthreshowl.a`. The functions on vectors are plain Rust, of a line or two each: C cannot reach the
-//! proved ones. Where the original would index outside a plane, or go on unchecked, a prediction here panics with the words of a
-//! [`Refusal`]: that is where a size, a stride, a plane's length or the position is at fault, or where the
-//! table of taps is neither of the two. `threshowl::prediction` has the same calls with refusals as values.
+//! Predictions are made, and finished with their residue, by `libthreshowl.a`. The functions on vectors are plain Rust, of a line
+//! or two each: C cannot reach the proved ones. Where the original would index outside a plane, or go on unchecked, a prediction
+//! here panics with the words of a [`Refusal`]: that is where a size, a stride, a plane's length or the position is at fault, or
+//! where the table of taps is neither of the two. `threshowl::prediction` and `threshowl::reconstruction` have the same calls with
+//! refusals as values.
+//!
+//! A macroblock that is not skipped also panics, with number 11, where a coefficient is beyond its range: Y2 has -16383..=16383, all
+//! others -4095..=4095, and of a whole macroblock the first of each Y block, which Y2 replaces, may be any. The original takes every
+//! coefficient, and a stream can hold greater ones: a decoder that is handed streams by strangers calls `threshowl::reconstruction`,
+//! which refuses them as a value.
 //!
 //! Not here:
 //!
-//! - `reconstruct_inter_mb`, `reconstruct_inter_mb_whole_pixel`, `reconstruct_split_mv_mb`: prediction with its residue, which the
-//!   library does not offer to C yet (request K5);
 //! - `interp`, and the `sixtap_..`, `fetch_..` and `filter_block_..` functions on one plane, which C cannot reach;
-//! - `RefFrame` and `select_ref_frame`, which read the stream: they stay with the decoder.
+//! - `select_ref_frame`, which reads the stream: it stays with the decoder.
 //!
 //! The file takes `Mv` and `ReconstructedMb` from `crate`, as the original does, so that a decoder can have it in the place of its
 //! own, over its own types.
 
 use crate::motion_vector::Mv;
 use crate::reconstruct::ReconstructedMb;
-use core::fmt;
+use core::{fmt, slice};
 use threshowl::prediction::{self, Picture, Position};
+use threshowl::reconstruction::{self, COEFFICIENTS, SPLIT_COEFFICIENTS};
 use threshowl::Refusal;
 
 pub use threshowl::tables::{filter_set_for_version, FilterSet, BILINEAR_FILTERS, SIXTAP_FILTERS};
+
+/// Which of the three earlier pictures a macroblock is predicted from. No call here takes it: it is here because decoders take it
+/// from this module.
+#[derive(Debug, Clone, Copy, PartialEq, Eq, Hash)]
+pub enum RefFrame {
+    /// The one before.
+    Last,
+    /// The golden frame.
+    Golden,
+    /// The altref frame.
+    AltRef,
+}
 
 /// A reference picture of whole macroblocks, with one stride for U and V.
 #[derive(Debug, Clone, Copy)]
@@ -49,7 +66,7 @@ impl<'a> From<ReferencePlanes<'a>> for Picture<'a> {
     }
 }
 
-/// Why [`predict_inter_mb_whole_pixel`] gave no samples.
+/// Why [`predict_inter_mb_whole_pixel`] or [`reconstruct_inter_mb_whole_pixel`] gave no samples.
 #[derive(Debug, Clone, Copy, PartialEq, Eq)]
 #[non_exhaustive]
 pub enum MotionCompError {
@@ -235,10 +252,150 @@ pub fn predict_inter_mb_whole_pixel(
     luma_mv: Mv,
     full_pixel: bool,
 ) -> Result<ReconstructedMb, MotionCompError> {
+    at_whole_pixels(luma_mv, full_pixel)?;
+    Ok(predict_inter_mb(reference, mb_col, mb_row, luma_mv, full_pixel, &SIXTAP_FILTERS))
+}
+
+/// The original's test, which comes before it looks at the planes.
+fn at_whole_pixels(luma_mv: Mv, full_pixel: bool) -> Result<(), MotionCompError> {
     let luma = stored_luma_mv(luma_mv);
     let whole = [luma, chroma_mv(luma)].into_iter().all(whole_pixel_fraction_is_zero);
-    if !whole && !full_pixel {
-        return Err(MotionCompError::SubPixelNotSupported);
+    if whole || full_pixel {
+        Ok(())
+    } else {
+        Err(MotionCompError::SubPixelNotSupported)
     }
-    Ok(predict_inter_mb(reference, mb_col, mb_row, luma_mv, full_pixel, &SIXTAP_FILTERS))
+}
+
+// ---- finished macroblocks
+
+/// The blocks of all planes one after the other.
+fn listed<const N: usize>(planes: &[&[[i16; 16]]]) -> [i16; N] {
+    let mut numbers = [0; N];
+    for (sixteen, block) in numbers.chunks_exact_mut(16).zip(planes.iter().copied().flatten()) {
+        sixteen.copy_from_slice(block);
+    }
+    numbers
+}
+
+/// [`predict_inter_mb`] with the residue of dequantised coefficients added; where `mb_skip_coeff` is set, the prediction itself.
+///
+/// What Y2 transforms to stands in for the first coefficient of each Y block.
+///
+/// ```
+/// use threshowl::motion_comp::{reconstruct_inter_mb, FilterSet, ReferencePlanes};
+/// use threshowl::motion_vector::Mv;
+/// # let (luma, chroma) = ([100; 256], [50; 64]);
+/// # let reference =
+/// #     ReferencePlanes { y: &luma, u: &chroma, v: &chroma, y_stride: 16, uv_stride: 8, mb_cols: 1, mb_rows: 1 };
+/// let (mut y2, y, mut u, v) = ([0; 16], [[0; 16]; 16], [[0; 16]; 4], [[0; 16]; 4]);
+/// y2[0] = 64; // 8 for each block of Y, which adds 1 to each of its samples
+/// u[3][0] = -80;
+/// let taps = FilterSet::Sixtap.taps();
+/// let mv = Mv { row: -3, col: 5 };
+/// let mb = reconstruct_inter_mb(&reference, 0, 0, mv, false, taps, false, &y2, &y, &u, &v);
+/// assert_eq!((mb.y, mb.u[0], mb.u[63], mb.v[63]), ([101; 256], 50, 40, 50));
+/// let skipped = reconstruct_inter_mb(&reference, 0, 0, mv, false, taps, true, &y2, &y, &u, &v);
+/// assert_eq!((skipped.y, skipped.u), (luma, chroma));
+/// ```
+#[allow(clippy::too_many_arguments)] // the original's
+pub fn reconstruct_inter_mb(
+    reference: &ReferencePlanes<'_>,
+    mb_col: usize,
+    mb_row: usize,
+    luma_mv: Mv,
+    full_pixel: bool,
+    filters: &[[i32; 6]; 8],
+    mb_skip_coeff: bool,
+    y2_coeffs_dequant: &[i16; 16],
+    y_coeffs_dequant: &[[i16; 16]; 16],
+    u_coeffs_dequant: &[[i16; 16]; 4],
+    v_coeffs_dequant: &[[i16; 16]; 4],
+) -> ReconstructedMb {
+    let picture = Picture::from(*reference);
+    let at = Position { mb_col, mb_row };
+    let numbers: [i16; COEFFICIENTS] =
+        listed(&[slice::from_ref(y2_coeffs_dequant), y_coeffs_dequant, u_coeffs_dequant, v_coeffs_dequant]);
+    samples(
+        named(filters).and_then(|set| {
+            reconstruction::reconstruct_whole(&picture, at, lent(luma_mv), set, full_pixel, mb_skip_coeff, &numbers)
+        }),
+    )
+}
+
+/// [`predict_inter_mb_whole_pixel`] with the residue added, as [`reconstruct_inter_mb`] adds it.
+///
+/// ```
+/// use threshowl::motion_comp::{reconstruct_inter_mb_whole_pixel, MotionCompError, ReferencePlanes};
+/// use threshowl::motion_vector::Mv;
+/// # let luma: Vec<u8> = (0..=255).collect();
+/// # let chroma = [50; 64];
+/// # let reference =
+/// #     ReferencePlanes { y: &luma, u: &chroma, v: &chroma, y_stride: 16, uv_stride: 8, mb_cols: 1, mb_rows: 1 };
+/// let (y2, y, u, mut v) = ([0; 16], [[0; 16]; 16], [[0; 16]; 4], [[0; 16]; 4]);
+/// v[0][0] = 400;
+/// let finish = |mv| reconstruct_inter_mb_whole_pixel(&reference, 0, 0, mv, false, false, &y2, &y, &u, &v);
+/// let mb = finish(Mv { row: 0, col: 8 }).unwrap();
+/// assert_eq!((mb.y[0], mb.v[0], mb.v[4]), (2, 100, 50));
+/// assert_eq!(finish(Mv { row: 0, col: 1 }), Err(MotionCompError::SubPixelNotSupported));
+/// ```
+#[allow(clippy::too_many_arguments)] // the original's
+pub fn reconstruct_inter_mb_whole_pixel(
+    reference: &ReferencePlanes<'_>,
+    mb_col: usize,
+    mb_row: usize,
+    luma_mv: Mv,
+    full_pixel: bool,
+    mb_skip_coeff: bool,
+    y2_coeffs_dequant: &[i16; 16],
+    y_coeffs_dequant: &[[i16; 16]; 16],
+    u_coeffs_dequant: &[[i16; 16]; 4],
+    v_coeffs_dequant: &[[i16; 16]; 4],
+) -> Result<ReconstructedMb, MotionCompError> {
+    at_whole_pixels(luma_mv, full_pixel)?;
+    let picture = Picture::from(*reference);
+    let at = Position { mb_col, mb_row };
+    let numbers: [i16; COEFFICIENTS] =
+        listed(&[slice::from_ref(y2_coeffs_dequant), y_coeffs_dequant, u_coeffs_dequant, v_coeffs_dequant]);
+    let mv = lent(luma_mv);
+    Ok(samples(reconstruction::reconstruct_whole_pixel(&picture, at, mv, full_pixel, mb_skip_coeff, &numbers)))
+}
+
+/// [`predict_split_mv`] with the residue of dequantised coefficients added; where `mb_skip_coeff` is set, the prediction itself.
+///
+/// There is no Y2: each block has its own first coefficient.
+///
+/// ```
+/// use threshowl::motion_comp::{reconstruct_split_mv_mb, FilterSet, ReferencePlanes};
+/// use threshowl::motion_vector::Mv;
+/// # let (luma, chroma) = ([100; 256], [50; 64]);
+/// # let reference =
+/// #     ReferencePlanes { y: &luma, u: &chroma, v: &chroma, y_stride: 16, uv_stride: 8, mb_cols: 1, mb_rows: 1 };
+/// let (mut y, u, v) = ([[0; 16]; 16], [[0; 16]; 4], [[0; 16]; 4]);
+/// y[5][0] = 4000; // 500 more, which clamps
+/// let taps = FilterSet::Bilinear.taps();
+/// let mb = reconstruct_split_mv_mb(&reference, 0, 0, &[Mv::default(); 16], false, taps, false, &y, &u, &v);
+/// assert_eq!((mb.y[4 * 16 + 3], mb.y[4 * 16 + 4]), (100, 255));
+/// ```
+#[allow(clippy::too_many_arguments)] // the original's
+pub fn reconstruct_split_mv_mb(
+    reference: &ReferencePlanes<'_>,
+    mb_col: usize,
+    mb_row: usize,
+    split_luma_mvs: &[Mv; 16],
+    full_pixel: bool,
+    filters: &[[i32; 6]; 8],
+    mb_skip_coeff: bool,
+    y_coeffs_dequant: &[[i16; 16]; 16],
+    u_coeffs_dequant: &[[i16; 16]; 4],
+    v_coeffs_dequant: &[[i16; 16]; 4],
+) -> ReconstructedMb {
+    let picture = Picture::from(*reference);
+    let at = Position { mb_col, mb_row };
+    let mvs = split_luma_mvs.map(lent);
+    let numbers: [i16; SPLIT_COEFFICIENTS] = listed(&[y_coeffs_dequant, u_coeffs_dequant, v_coeffs_dequant]);
+    samples(
+        named(filters)
+            .and_then(|set| reconstruction::reconstruct_split(&picture, at, &mvs, set, full_pixel, mb_skip_coeff, &numbers)),
+    )
 }

@@ -1,4 +1,4 @@
-//! Prediction with refusals as values: whole, split and merging, and by a frame's version.
+//! Prediction with refusals as values: whole, split, merging and by quarters, and by a frame's version.
 //!
 //! A [`Picture`] has a stride for each plane. The numbers 5, 6 and 7 of the C header are never given: the types rule them out.
 
@@ -52,7 +52,7 @@ pub enum FullPixel {
 }
 
 /// Sixteen vectors as the C functions take them: row, then column, each little-endian.
-fn bytes_of(mvs: &[Mv; 16]) -> [u8; 64] {
+pub(crate) fn bytes_of(mvs: &[Mv; 16]) -> [u8; 64] {
     let mut bytes = [0; 64];
     for (four, mv) in bytes.chunks_exact_mut(4).zip(mvs) {
         four[..2].copy_from_slice(&mv.row.to_le_bytes());
@@ -62,7 +62,7 @@ fn bytes_of(mvs: &[Mv; 16]) -> [u8; 64] {
 }
 
 /// Hands 384 bytes to a call, and gives back what it wrote.
-fn written(call: impl FnOnce(&mut [u8; 384]) -> u32) -> Result<ReconstructedMb, Refusal> {
+pub(crate) fn written(call: impl FnOnce(&mut [u8; 384]) -> u32) -> Result<ReconstructedMb, Refusal> {
     let mut out = [0; 384];
     Refusal::done(call(&mut out))?;
     let mut mb = ReconstructedMb::default();
@@ -103,7 +103,7 @@ pub fn predict_whole(
     filter: FilterSet,
     full_pixel: bool,
 ) -> Result<ReconstructedMb, Refusal> {
-    written(|out| ffi::whole(picture, at, mv, (filter.code(), full_pixel.into()), out))
+    written(|out| ffi::whole(picture, at, mv, [filter.code(), full_pixel.into()], out))
 }
 
 /// A vector for each 4x4 block of luma, in raster order; a 4x4 block of chroma takes the average of its four.
@@ -133,7 +133,7 @@ pub fn predict_split(
     filter: FilterSet,
     full_pixel: bool,
 ) -> Result<ReconstructedMb, Refusal> {
-    written(|out| ffi::split(picture, at, &bytes_of(mvs), (filter.code(), full_pixel.into()), out))
+    written(|out| ffi::split(picture, at, &bytes_of(mvs), [filter.code(), full_pixel.into()], out))
 }
 
 /// What [`predict_split`] gives on every input, sooner where the sixteen vectors are one that lies in -16384..=16383 both ways:
@@ -161,7 +161,37 @@ pub fn predict_merging(
     filter: FilterSet,
     full_pixel: bool,
 ) -> Result<ReconstructedMb, Refusal> {
-    written(|out| ffi::merging(picture, at, &bytes_of(mvs), (filter.code(), full_pixel.into()), out))
+    written(|out| ffi::merging(picture, at, &bytes_of(mvs), [filter.code(), full_pixel.into()], out))
+}
+
+/// What [`predict_split`] gives on every input, sooner where vectors are equal: luma is predicted in one go where all sixteen are
+/// the same, else each quarter of 8 by 8 samples whose four are, else by 4x4 blocks. Chroma is predicted as split does it, so that
+/// every vector is merged. Refuses with 1 to 4.
+///
+/// ```
+/// # use threshowl::motion_vector::Mv;
+/// # use threshowl::prediction::{predict_quarters, predict_split, Picture, Position};
+/// # use threshowl::tables::FilterSet;
+/// # let luma: Vec<u8> = (0..=255).collect();
+/// # let chroma: Vec<u8> = (0..64).collect();
+/// # let picture = Picture {
+/// #     y: &luma, u: &chroma, v: &chroma, y_stride: 16, u_stride: 8, v_stride: 8, mb_cols: 1, mb_rows: 1,
+/// # };
+/// # let first = Position { mb_col: 0, mb_row: 0 };
+/// let mut mvs = [Mv { row: 3, col: -5 }; 16];
+/// mvs[15] = Mv { row: -7, col: 2 }; // three quarters are merged, and the last goes by 4x4 blocks
+/// let merged = predict_quarters(&picture, first, &mvs, FilterSet::Sixtap, false)?;
+/// assert_eq!(merged, predict_split(&picture, first, &mvs, FilterSet::Sixtap, false)?);
+/// # Ok::<(), threshowl::Refusal>(())
+/// ```
+pub fn predict_quarters(
+    picture: &Picture<'_>,
+    at: Position,
+    mvs: &[Mv; 16],
+    filter: FilterSet,
+    full_pixel: bool,
+) -> Result<ReconstructedMb, Refusal> {
+    written(|out| ffi::quarters(picture, at, &bytes_of(mvs), [filter.code(), full_pixel.into()], out))
 }
 
 /// Whole prediction with the table and the rule of a frame's version, as it stands in the frame's tag.
@@ -194,7 +224,7 @@ pub fn predict_whole_by_version(
     version: u8,
     full_pixel: FullPixel,
 ) -> Result<ReconstructedMb, Refusal> {
-    written(|out| ffi::whole_by_version(picture, at, mv, (version, standard(full_pixel)), out))
+    written(|out| ffi::whole_by_version(picture, at, mv, [version, standard(full_pixel)], out))
 }
 
 /// Split prediction with the table and the rule of a frame's version. Refuses as [`predict_whole_by_version`] does.
@@ -221,7 +251,7 @@ pub fn predict_split_by_version(
     version: u8,
     full_pixel: FullPixel,
 ) -> Result<ReconstructedMb, Refusal> {
-    written(|out| ffi::split_by_version(picture, at, &bytes_of(mvs), (version, standard(full_pixel)), out))
+    written(|out| ffi::split_by_version(picture, at, &bytes_of(mvs), [version, standard(full_pixel)], out))
 }
 
 fn standard(full_pixel: FullPixel) -> u8 {

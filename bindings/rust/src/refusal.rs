@@ -24,8 +24,12 @@ pub enum Refusal {
     BadVectors,
     /// 7: an output of the wrong size, or too small.
     BadOut,
+    /// 8: a vector leaves a fraction of a pixel.
+    FractionLeft,
     /// 10: a version above 3.
     ReservedVersion,
+    /// 11: another count of coefficients than there should be, or, not skipped, one beyond its range.
+    BadCoefficients,
     /// 12: not a YUV4MPEG2 header that the format allows.
     BadHeader,
     /// 13: the first bytes are not the mark of a frame.
@@ -36,7 +40,7 @@ pub enum Refusal {
     NotIvf,
 }
 
-const ALL: [Refusal; 12] = [
+const ALL: [Refusal; 14] = [
     Refusal::BadSize,
     Refusal::BadStride,
     Refusal::ShortPlane,
@@ -44,7 +48,9 @@ const ALL: [Refusal; 12] = [
     Refusal::BadFilter,
     Refusal::BadVectors,
     Refusal::BadOut,
+    Refusal::FractionLeft,
     Refusal::ReservedVersion,
+    Refusal::BadCoefficients,
     Refusal::BadHeader,
     Refusal::NoMark,
     Refusal::ShortFrame,
@@ -71,7 +77,9 @@ impl Refusal {
             Refusal::BadFilter => (5, "the table of taps is neither six-tap nor bilinear"),
             Refusal::BadVectors => (6, "there are not sixteen vectors"),
             Refusal::BadOut => (7, "the output has the wrong size, or is too small"),
+            Refusal::FractionLeft => (8, "the vector leaves a fraction of a pixel"),
             Refusal::ReservedVersion => (10, "the version is above 3"),
+            Refusal::BadCoefficients => (11, "the count of coefficients is wrong, or one is beyond its range"),
             Refusal::BadHeader => (12, "not a YUV4MPEG2 header that the format allows"),
             Refusal::NoMark => (13, "the first bytes are not the mark of a frame"),
             Refusal::ShortFrame => (14, "the frame is cut short"),

@@ -7,8 +7,8 @@ use std::panic::catch_unwind;
 use threshowl::motion_comp::{predict_inter_mb, predict_inter_mb_whole_pixel, predict_split_mv, ReferencePlanes};
 use threshowl::motion_vector::Mv;
 use threshowl::prediction::{
-    predict_merging, predict_split, predict_split_by_version, predict_whole, predict_whole_by_version, FullPixel, Picture,
-    Position,
+    predict_merging, predict_quarters, predict_split, predict_split_by_version, predict_whole, predict_whole_by_version,
+    FullPixel, Picture, Position,
 };
 use threshowl::reconstruct::ReconstructedMb;
 use threshowl::tables::FilterSet;
@@ -31,10 +31,18 @@ fn vector(draw: &mut Draw) -> Mv {
     Mv { row, col }
 }
 
+/// One, one for each quarter, or any; then maybe one of them another.
 fn sixteen(draw: &mut Draw) -> [Mv; 16] {
-    let all = draw.below(4) == 0;
-    let one = vector(draw);
-    [(); 16].map(|()| if all { one } else { vector(draw) })
+    let four = [(); 4].map(|()| vector(draw));
+    let mut mvs: [Mv; 16] = match draw.below(3) {
+        0 => [four[0]; 16],
+        1 => std::array::from_fn(|b| four[b / 8 * 2 + b % 4 / 2]),
+        _ => [(); 16].map(|()| vector(draw)),
+    };
+    if draw.coin() {
+        mvs[draw.below(16)] = vector(draw);
+    }
+    mvs
 }
 
 /// One macroblock of one value.
@@ -93,6 +101,7 @@ fn the_calls_agree() {
         let split = predict_split(&picture, at, &mvs, set, full).unwrap();
         let whole = predict_whole(&picture, at, mvs[0], set, full).unwrap();
         assert_eq!(split, predict_merging(&picture, at, &mvs, set, full).unwrap());
+        assert_eq!(split, predict_quarters(&picture, at, &mvs, set, full).unwrap());
         assert_eq!(split, predict_split_mv(&lent, at.mb_col, at.mb_row, &mvs, full, set.taps()));
         assert_eq!(whole, predict_inter_mb(&lent, at.mb_col, at.mb_row, mvs[0], full, set.taps()));
         let near = |z: i16| (-16384..=16383).contains(&z);
@@ -141,6 +150,7 @@ fn each_fault_has_its_refusal() {
             assert_eq!(predict_whole(&picture, at, mvs[0], set, false), Err(due));
             assert_eq!(predict_split(&picture, at, &mvs, set, true), Err(due));
             assert_eq!(predict_merging(&picture, at, &mvs, set, false), Err(due));
+            assert_eq!(predict_quarters(&picture, at, &mvs, set, false), Err(due));
         }
         for mode in [FullPixel::LumaAndChroma, FullPixel::ChromaAlone] {
             assert_eq!(predict_whole_by_version(&picture, at, mvs[0], 3, mode), Err(due));
@@ -182,7 +192,9 @@ fn a_refusal_has_a_number_and_words() {
         (Refusal::BadFilter, "BAD_FILTER"),
         (Refusal::BadVectors, "BAD_VECTORS"),
         (Refusal::BadOut, "BAD_OUT"),
+        (Refusal::FractionLeft, "FRACTION_LEFT"),
         (Refusal::ReservedVersion, "RESERVED_VERSION"),
+        (Refusal::BadCoefficients, "BAD_COEFFICIENTS"),
         (Refusal::BadHeader, "BAD_HEADER"),
         (Refusal::NoMark, "NO_MARK"),
         (Refusal::ShortFrame, "SHORT_FRAME"),

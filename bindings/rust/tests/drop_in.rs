@@ -24,7 +24,7 @@ mod reconstruct {
 }
 
 #[test]
-fn it_predicts_as_the_crate_does() {
+fn it_answers_as_the_crate_does() {
     let mut draw = draws::Draw::new();
     for _ in 0..200 {
         let planes = draws::Planes::drawn(&mut draw);
@@ -52,6 +52,17 @@ fn it_predicts_as_the_crate_does() {
         let got = motion_comp::predict_inter_mb(&own, *mb_col, *mb_row, motion_vector::Mv { row, col }, false, taps);
         let mv = threshowl::motion_vector::Mv { row, col };
         let due = threshowl::motion_comp::predict_inter_mb(&crates, *mb_col, *mb_row, mv, false, taps);
+        assert_eq!((got.y, got.u, got.v), (due.y, due.u, due.v));
+
+        let draws::Residue { skip, y2, y, u, v } = draws::Residue::drawn(&mut draw);
+        let mvs = [(row, col); 16].map(|(row, col)| motion_vector::Mv { row, col });
+        let got = motion_comp::reconstruct_split_mv_mb(&own, *mb_col, *mb_row, &mvs, true, taps, skip, &y, &u, &v);
+        let due =
+            threshowl::motion_comp::reconstruct_split_mv_mb(&crates, *mb_col, *mb_row, &[mv; 16], true, taps, skip, &y, &u, &v);
+        assert_eq!((got.y, got.u, got.v), (due.y, due.u, due.v));
+        let own_mv = motion_vector::Mv { row, col };
+        let got = motion_comp::reconstruct_inter_mb(&own, *mb_col, *mb_row, own_mv, true, taps, skip, &y2, &y, &u, &v);
+        let due = threshowl::motion_comp::reconstruct_inter_mb(&crates, *mb_col, *mb_row, mv, true, taps, skip, &y2, &y, &u, &v);
         assert_eq!((got.y, got.u, got.v), (due.y, due.u, due.v));
     }
 }

@@ -1,4 +1,4 @@
-//! Pictures, positions and vectors drawn at random, for the tests, each of which takes a part.
+//! Pictures, positions, vectors and coefficients drawn at random, for the tests, each of which takes a part.
 #![allow(dead_code)]
 
 /// A xorshift generator.
@@ -33,6 +33,23 @@ impl Draw {
         }
     }
 
+    /// From -limit to limit.
+    fn within(&mut self, limit: i16) -> i16 {
+        self.below(2 * limit as usize + 1) as i16 - limit
+    }
+
+    /// All values, small, sparse, the first of its block alone, or the extremes.
+    fn coefficient(&mut self, kind: usize, place: usize, limit: i16) -> i16 {
+        match kind {
+            0 => self.within(limit),
+            1 => self.within(60),
+            2 if self.below(8) == 0 => self.within(limit),
+            3 if place == 0 => self.within(limit),
+            4 => [-limit, 0, limit][self.below(3)],
+            _ => 0,
+        }
+    }
+
     /// Row and column.
     pub fn vector(&mut self) -> (i16, i16) {
         (self.component(), self.component())
@@ -62,5 +79,37 @@ impl Planes {
         let v = plane(uv_stride * mb_rows * 8);
         let (mb_col, mb_row) = (draw.below(mb_cols), draw.below(mb_rows));
         Planes { y, u, v, y_stride, uv_stride, mb_cols, mb_rows, mb_col, mb_row }
+    }
+}
+
+/// The coefficients of a macroblock within their ranges, or any, which are skipped.
+pub struct Residue {
+    pub skip: bool,
+    pub y2: [i16; 16],
+    pub y: [[i16; 16]; 16],
+    pub u: [[i16; 16]; 4],
+    pub v: [[i16; 16]; 4],
+}
+
+impl Residue {
+    pub fn drawn(draw: &mut Draw) -> Residue {
+        let skip = draw.below(7) == 0;
+        let (mixed, kind) = (draw.below(6) == 0, draw.below(5));
+        let mut block = |limit| {
+            let kind = if mixed { draw.below(5) } else { kind };
+            std::array::from_fn(|place| if skip { draw.number() as i16 } else { draw.coefficient(kind, place, limit) })
+        };
+        let y2 = block(16383);
+        let y = [(); 16].map(|()| block(4095));
+        let u = [(); 4].map(|()| block(4095));
+        let v = [(); 4].map(|()| block(4095));
+        Residue { skip, y2, y, u, v }
+    }
+
+    /// The blocks of Y with any first coefficients, for a macroblock where Y2 replaces them.
+    pub fn y_replaced(&self, draw: &mut Draw) -> [[i16; 16]; 16] {
+        let mut y = self.y;
+        y.iter_mut().for_each(|block| block[0] = draw.number() as i16);
+        y
     }
 }

@@ -56,3 +56,28 @@ pub fn drawn(draw: &mut Draw) -> Vec<u8> {
     }
     bytes
 }
+
+/// Whether the residue was skipped, and the three calls that add it.
+pub fn finished(draw: &mut Draw) -> (bool, [Vec<u8>; 3]) {
+    let lent = Planes::drawn(draw);
+    let reference = planes(&lent);
+    let (col, row) = (lent.mb_col, lent.mb_row);
+    let residue = Residue::drawn(draw);
+    let Residue { skip, y2, y, u, v } = &residue;
+    let replaced = residue.y_replaced(draw);
+    let mv = vector(draw);
+    let whole = motion_vector::Mv { row: mv.row & !7, col: mv.col & !7 };
+    let mvs = [(); 16].map(|()| vector(draw));
+    let full_pixel = draw.coin();
+    let taps = if draw.coin() { motion_comp::FilterSet::Sixtap } else { motion_comp::FilterSet::Bilinear }.taps();
+
+    let filtered = motion_comp::reconstruct_inter_mb(&reference, col, row, mv, full_pixel, taps, *skip, y2, &replaced, u, v);
+    let any = if draw.below(4) == 0 { mv } else { whole };
+    let copied = motion_comp::reconstruct_inter_mb_whole_pixel(&reference, col, row, any, full_pixel, *skip, y2, &replaced, u, v);
+    let copied = match copied {
+        Ok(mb) => written(&mb),
+        Err(error) => vec![(error == motion_comp::MotionCompError::SubPixelNotSupported).into()],
+    };
+    let split = motion_comp::reconstruct_split_mv_mb(&reference, col, row, &mvs, full_pixel, taps, *skip, y, u, v);
+    (*skip, [written(&filtered), copied, written(&split)])
+}
