@@ -58,8 +58,8 @@ interrupted() {
     signal=$1
     out=$2
     shift 2
-    # A shell starts what runs beside it with INT ignored.
-    env --default-signal=INT $emulator "$program" "$@" >said 2>complained &
+    # A shell starts what runs beside it with INT ignored, and nohup what it runs with HUP.
+    env --default-signal=INT,HUP $emulator "$program" "$@" >said 2>complained &
     child=$!
     while [ -z "$(find . -name ".$name-*")" ] && kill -0 "$child" 2>/dev/null; do :; done
     kill -s "$signal" "$child" 2>/dev/null
