@@ -11,5 +11,6 @@ pub use predict::predict_merging;
 pub use predict::predict_split_mv;
 pub use predict::predict_split_mv_lowered;
 
-// what is answered with a number alone
+// number 8 of two vectors, and what is answered with a number alone
+pub use predict::fraction_left;
 pub use predict::refused;

@@ -109,7 +109,7 @@ pub fn predict_inter_mb(
 }
 
 // Number 8 where a fraction is left, in any plane.
-fn fraction_left(luma: Mv, chroma: Mv) -> u32
+pub fn fraction_left(luma: Mv, chroma: Mv) -> u32
     ensures { λ r. ⌜ r ≡ cond (isWhole luma && isWhole chroma) 0 8 ⌝ }
 {
     if !whole_pixel_fraction_is_zero(luma) {

@@ -16,8 +16,7 @@ use crate::boundary::whole_into;
 use crate::vectors::mvs_of_bytes;
 use motion_vectors::chroma_vector;
 use motion_vectors::luma_vector;
-use motion_vectors::whole_pixel_fraction_is_zero;
-use numbers::FRACTION;
+use prediction::fraction_left;
 use refusals::code_refusal;
 use refusals::or_else;
 use refusals::room_refusal;
@@ -33,13 +32,9 @@ use rfc6386::Sizes;
 fn fraction_refusal(mv: Mv, full_pixel: bool) -> u32
     ensures { λ r. ⌜ r ≡ fractionLeft (fullPixel «full_pixel») mv ⌝ }
 {
-    if !whole_pixel_fraction_is_zero(luma_vector(mv, full_pixel)) {
-        return FRACTION;
-    }
-    if !whole_pixel_fraction_is_zero(chroma_vector(mv, full_pixel)) {
-        return FRACTION;
-    }
-    0
+    let luma = luma_vector(mv, full_pixel);
+    let chroma = chroma_vector(mv, full_pixel);
+    fraction_left(luma, chroma)
 }
 
 // Codes for a call that predicts: with a number after that of the output's room, it writes nothing where that number is not 0.
