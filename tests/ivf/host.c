@@ -16,35 +16,9 @@
 
 #include <stdint.h>
 #include <stdio.h>
-#include <stdlib.h>
-#include <string.h>
-#include <sys/mman.h>
 
+#include "../fenced.h"
 #include "threshowl.h"
-
-enum { PAGE = 4096, PAGES = 64, MOST = PAGE * PAGES };
-
-static void need(int holds) {
-    if (!holds) {
-        perror("host");
-        exit(2);
-    }
-}
-
-/* MOST bytes between two pages that may not be touched. */
-static uint8_t *fenced(void) {
-    uint8_t *map = mmap(NULL, MOST + 2 * PAGE, PROT_NONE, MAP_PRIVATE | MAP_ANONYMOUS, -1, 0);
-    need(map != MAP_FAILED && mprotect(map + PAGE, MOST, PROT_READ | PROT_WRITE) == 0);
-    return map + PAGE;
-}
-
-static void take(void *to, size_t len) {
-    need(fread(to, 1, len, stdin) == len);
-}
-
-static void give(const void *from, size_t len) {
-    need(fwrite(from, 1, len, stdout) == len);
-}
 
 int main(void) {
     uint8_t *files = fenced();

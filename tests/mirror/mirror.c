@@ -13,7 +13,6 @@
 #include <inttypes.h>
 #include <stdbool.h>
 #include <stdio.h>
-#include <stdlib.h>
 #include <string.h>
 
 #include "../draw.h"
@@ -326,9 +325,7 @@ static bool as_it_should(const Sweep *s)
 
 int main(int argc, char **argv)
 {
-    state = argc > 1 ? strtoull(argv[1], NULL, 10) : 11;
-    if (state == 0)
-        state = 1;
+    seed(argc, argv, 11);
     Sweep every = {"every component in range, whole", false, 0, 0};
     Sweep whole = {"any picture and vector, whole", false, 0, 0};
     Sweep split = {"any picture and vectors, split and merging", false, 0, 0};

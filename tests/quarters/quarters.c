@@ -17,7 +17,6 @@
 #include <inttypes.h>
 #include <stdbool.h>
 #include <stdio.h>
-#include <stdlib.h>
 #include <string.h>
 
 #include "../draw.h"
@@ -45,12 +44,6 @@ typedef struct {
 } Answer;
 
 static uint8_t y[Y_LEN], u[U_LEN], v[V_LEN];
-
-static void fill(uint8_t *bytes, size_t len)
-{
-    for (size_t i = 0; i < len; i++)
-        bytes[i] = (uint8_t)draw();
-}
 
 /* ---- vectors */
 
@@ -236,9 +229,7 @@ static void faulty(void)
 
 int main(int argc, char **argv)
 {
-    state = argc > 1 ? strtoull(argv[1], NULL, 10) : 7;
-    if (state == 0)
-        state = 1;
+    seed(argc, argv, 7);
     for (int turn = 0; turn < 40; turn++) {
         fill(y, sizeof y);
         fill(u, sizeof u);

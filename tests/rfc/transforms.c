@@ -297,7 +297,7 @@ static void smallest(void)
 
 int main(int argc, char **argv)
 {
-    state = argc > 1 ? strtoull(argv[1], NULL, 10) | 1 : 6386;
+    seed(argc, argv, 6386);
     printf("%-46s %10s %10s %10s\n", "", "compared", "leaving", "differ");
     wht_blocks();
     dct_blocks("DCT, 14.4, firsts in -4095..4095", "DCT, 20.8, the same", LIMIT);

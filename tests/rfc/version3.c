@@ -17,7 +17,6 @@
  */
 #include <inttypes.h>
 #include <stdio.h>
-#include <stdlib.h>
 #include <string.h>
 
 #include "../draw.h"
@@ -484,9 +483,7 @@ static bool as_it_should(void)
 
 int main(int argc, char **argv)
 {
-    state = argc > 1 ? strtoull(argv[1], NULL, 10) : 10;
-    if (state == 0)
-        state = 1;
+    seed(argc, argv, 10);
     for (version = 0; version < 4; version++) {
         every_component(version == 3 ? 1 : 8);
         every_place(version == 3 ? 36 : 12);

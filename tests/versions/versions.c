@@ -13,7 +13,6 @@
 #include <inttypes.h>
 #include <stdbool.h>
 #include <stdio.h>
-#include <stdlib.h>
 #include <string.h>
 
 #include "../draw.h"
@@ -36,14 +35,6 @@ typedef struct {
 } Answer;
 
 static uint8_t y[Y_LEN], u[U_LEN], v[V_LEN];
-
-/* ---- numbers drawn at random */
-
-static void fill(uint8_t *bytes, size_t len)
-{
-    for (size_t i = 0; i < len; i++)
-        bytes[i] = (uint8_t)draw();
-}
 
 /* ---- calls */
 
@@ -176,9 +167,7 @@ static void with_faults(const Call *good)
 
 int main(int argc, char **argv)
 {
-    state = argc > 1 ? strtoull(argv[1], NULL, 10) : 4;
-    if (state == 0)
-        state = 1;
+    seed(argc, argv, 4);
     for (int turn = 0; turn < 200; turn++) {
         fill(y, sizeof y);
         fill(u, sizeof u);
