@@ -47,7 +47,7 @@ pub fn tile_into(plane: &[u8], at: Place, mv: Mv, set: FilterSet, out: &mut [u8]
     ensures { λ _. ⌜ now (out .exit) ≡ put (now (out .entry)) spot 4 (picture.block 4 set (picture.image (planeAt (now (plane .entry)) at)) (at .x) (at .y) mv) ⌝ }
 {
     if whole_pixel_fraction_is_zero(mv) {
-        let block = pixels_of_4(plane, at.stride, at.w, at.h, at.x, at.y, mv);
+        let block = pixels_of_4(plane, at, mv);
         copy_rect(out, spot, 4, 4, &block, Window { at: 0, pitch: 4 });
         return;
     }
@@ -61,7 +61,7 @@ pub fn tile_into(plane: &[u8], at: Place, mv: Mv, set: FilterSet, out: &mut [u8]
         filter_tile(plane, from, way, out, spot);
         return;
     }
-    let halo = halo_of_4(plane, at.stride, at.w, at.h, at.x, at.y, mv);
+    let halo = halo_of_4(plane, at, mv);
     filter_tile(&halo, Window { at: 0, pitch: 9 }, way, out, spot);
 }
 
@@ -90,7 +90,7 @@ pub fn block_of_16(plane: &[u8], at: Place, mv: Mv, set: FilterSet) -> [u8; 256]
     ensures { λ r. ⌜ r ≡ picture.block 16 set (picture.image (planeAt (now (plane .entry)) at)) (at .x) (at .y) mv ⌝ }
 {
     if whole_pixel_fraction_is_zero(mv) {
-        return pixels_of_16(plane, at.stride, at.w, at.h, at.x, at.y, mv);
+        return pixels_of_16(plane, at, mv);
     }
     let way = way_of(mv, set);
     let found = find(at, mv, 21);
@@ -101,7 +101,7 @@ pub fn block_of_16(plane: &[u8], at: Place, mv: Mv, set: FilterSet) -> [u8; 256]
         };
         return filter_wide(plane, from, way);
     }
-    let halo = halo_of_16(plane, at.stride, at.w, at.h, at.x, at.y, mv);
+    let halo = halo_of_16(plane, at, mv);
     filter_wide(&halo, Window { at: 0, pitch: 21 }, way)
 }
 

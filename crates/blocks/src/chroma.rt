@@ -53,8 +53,8 @@ pub fn blocks_of_8(u: &[u8], u_at: Place, v: &[u8], v_at: Place, mv: Mv, set: Fi
 {
     if whole_pixel_fraction_is_zero(mv) {
         return Chroma {
-            u: pixels_of_8(u, u_at.stride, u_at.w, u_at.h, u_at.x, u_at.y, mv),
-            v: pixels_of_8(v, v_at.stride, v_at.w, v_at.h, v_at.x, v_at.y, mv),
+            u: pixels_of_8(u, u_at, mv),
+            v: pixels_of_8(v, v_at, mv),
         };
     }
     let way = way_of(mv, set);
@@ -71,8 +71,8 @@ pub fn blocks_of_8(u: &[u8], u_at: Place, v: &[u8], v_at: Place, mv: Mv, set: Fi
         let strips = filter_strips(u, u_from, v, v_from, 8, way);
         return apart(&strips);
     }
-    let u_halo = halo_of_8(u, u_at.stride, u_at.w, u_at.h, u_at.x, u_at.y, mv);
-    let v_halo = halo_of_8(v, v_at.stride, v_at.w, v_at.h, v_at.x, v_at.y, mv);
+    let u_halo = halo_of_8(u, u_at, mv);
+    let v_halo = halo_of_8(v, v_at, mv);
     let whole = Window { at: 0, pitch: 13 };
     let strips = filter_strips(&u_halo, whole, &v_halo, whole, 8, way);
     apart(&strips)
@@ -100,8 +100,8 @@ pub fn pair_into(
 {
     if whole_pixel_fraction_is_zero(mv) {
         let whole = Window { at: 0, pitch: 4 };
-        let u_block = pixels_of_4(u, u_at.stride, u_at.w, u_at.h, u_at.x, u_at.y, mv);
-        let v_block = pixels_of_4(v, v_at.stride, v_at.w, v_at.h, v_at.x, v_at.y, mv);
+        let u_block = pixels_of_4(u, u_at, mv);
+        let v_block = pixels_of_4(v, v_at, mv);
         copy_rect(u_out, spot, 4, 4, &u_block, whole);
         copy_rect(v_out, spot, 4, 4, &v_block, whole);
         return;
@@ -131,8 +131,8 @@ fn pair_of(u: &[u8], u_at: Place, v: &[u8], v_at: Place, mv: Mv, set: FilterSet)
         };
         return filter_pair(u, u_from, v, v_from, way);
     }
-    let u_halo = halo_of_4(u, u_at.stride, u_at.w, u_at.h, u_at.x, u_at.y, mv);
-    let v_halo = halo_of_4(v, v_at.stride, v_at.w, v_at.h, v_at.x, v_at.y, mv);
+    let u_halo = halo_of_4(u, u_at, mv);
+    let v_halo = halo_of_4(v, v_at, mv);
     let whole = Window { at: 0, pitch: 9 };
     filter_pair(&u_halo, whole, &v_halo, whole, way)
 }

@@ -2,6 +2,7 @@
 // Each takes every plane, size, position and vector, and refuses by number.
 ghost use mathlib.Core.Path.{_≡_};
 ghost use Rattle.rfc6386.specs.Block.{planeOf, pixels4, pixels8, pixels16, halo9, halo13, halo21};
+use crate::place::Place;
 use crate::square::halo_of_4;
 use crate::square::halo_of_8;
 use crate::square::halo_of_16;
@@ -36,9 +37,16 @@ pub fn fetch_block_whole_pixel(
             samples: [0u8; 16],
         };
     }
+    let at = Place {
+        stride,
+        w,
+        h,
+        x: blk_x,
+        y: blk_y,
+    };
     Block4 {
         number,
-        samples: pixels_of_4(plane, stride, w, h, blk_x, blk_y, mv),
+        samples: pixels_of_4(plane, at, mv),
     }
 }
 
@@ -61,9 +69,16 @@ pub fn fetch_block_halo(
             samples: [0u8; 81],
         };
     }
+    let at = Place {
+        stride,
+        w,
+        h,
+        x: blk_x,
+        y: blk_y,
+    };
     Halo9 {
         number,
-        samples: halo_of_4(plane, stride, w, h, blk_x, blk_y, mv),
+        samples: halo_of_4(plane, at, mv),
     }
 }
 
@@ -86,9 +101,16 @@ pub fn fetch_luma_mb_whole_pixel(
             samples: [0u8; 256],
         };
     }
+    let at = Place {
+        stride,
+        w,
+        h,
+        x: mb_x,
+        y: mb_y,
+    };
     Block16 {
         number,
-        samples: pixels_of_16(plane, stride, w, h, mb_x, mb_y, mv),
+        samples: pixels_of_16(plane, at, mv),
     }
 }
 
@@ -111,9 +133,16 @@ pub fn fetch_luma_mb_halo(
             samples: [0u8; 441],
         };
     }
+    let at = Place {
+        stride,
+        w,
+        h,
+        x: mb_x,
+        y: mb_y,
+    };
     Halo21 {
         number,
-        samples: halo_of_16(plane, stride, w, h, mb_x, mb_y, mv),
+        samples: halo_of_16(plane, at, mv),
     }
 }
 
@@ -136,9 +165,16 @@ pub fn fetch_chroma_mb_whole_pixel(
             samples: [0u8; 64],
         };
     }
+    let at = Place {
+        stride,
+        w,
+        h,
+        x: mb_x,
+        y: mb_y,
+    };
     Block8 {
         number,
-        samples: pixels_of_8(plane, stride, w, h, mb_x, mb_y, mv),
+        samples: pixels_of_8(plane, at, mv),
     }
 }
 
@@ -161,8 +197,15 @@ pub fn fetch_chroma_mb_halo(
             samples: [0u8; 169],
         };
     }
+    let at = Place {
+        stride,
+        w,
+        h,
+        x: mb_x,
+        y: mb_y,
+    };
     Halo13 {
         number,
-        samples: halo_of_8(plane, stride, w, h, mb_x, mb_y, mv),
+        samples: halo_of_8(plane, at, mv),
     }
 }

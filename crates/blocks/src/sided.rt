@@ -27,7 +27,7 @@ fn clamped_halo(plane: &[u8], at: Place, mv: Mv, n: usize, out: &mut [u8])
 {
     let x0 = origin(at.x, mv.col) - 2;
     let y0 = origin(at.y, mv.row) - 2;
-    clamped(plane, at.stride, at.w, at.h, x0, y0, n + 5, n + 5, out);
+    clamped(plane, at, x0, y0, n + 5, n + 5, out);
 }
 
 // The block of n samples a side, out of the plane where its halo lies inside it, else out of a clamped copy.

@@ -8,9 +8,8 @@ ghost use lib.IntN.{pos, _+ℤ_};
 ghost use Rattle.rfc6386.specs.Number.{clamped};
 ghost use Rattle.rfc6386.specs.Vector.{wholePart};
 ghost use Rattle.rfc6386.specs.Picture.{image, square, pixels, halo};
-ghost use Rattle.rfc6386.specs.Refusal.{planeRefusal};
-ghost use Rattle.rfc6386.specs.Block.{planeOf};
-ghost use Rattle.blocks.specs.Places.{Near, Inside, Source, clampedRow, clampedRect};
+ghost use Rattle.blocks.specs.Places.{Near, Inside, Source, clampedRow, clampedRect, planeAt, Accepted, haloStart};
+use crate::place::Place;
 use motion_vectors::whole_part;
 use rfc6386::Mv;
 use steps::rect::Spot;
@@ -52,29 +51,19 @@ fn clamped_row(plane: &[u8], at: usize, w: usize, x0: i64, n: usize, out: &mut [
 }
 
 // `rows` rows of `cols` clamped samples, to the first rows * cols bytes of out.
-pub fn clamped(
-    plane: &[u8],
-    stride: usize,
-    w: usize,
-    h: usize,
-    x0: i64,
-    y0: i64,
-    cols: usize,
-    rows: usize,
-    out: &mut [u8],
-)
-    requires { ⌜ Source (planeOf (now plane) stride w h) x0 y0 ⌝ }
+pub fn clamped(plane: &[u8], at: Place, x0: i64, y0: i64, cols: usize, rows: usize, out: &mut [u8])
+    requires { ⌜ Source (planeAt (now plane) at) x0 y0 ⌝ }
     requires { ⌜ cols ≤ 21 ⌝ }
     requires { ⌜ rows ≤ 21 ⌝ }
     requires { ⌜ rows * cols ≤ length (now out) ⌝ }
-    ensures { λ _. ⌜ now (out .exit) ≡ clampedRect (planeOf (now (plane .entry)) stride w h) x0 y0 cols rows (now (out .entry)) ⌝ }
+    ensures { λ _. ⌜ now (out .exit) ≡ clampedRect (planeAt (now (plane .entry)) at) x0 y0 cols rows (now (out .entry)) ⌝ }
 {
     let mut r: usize = 0;
     while r < rows {
         clamped_row(
             plane,
-            clamp_at(y0, r, h) * stride,
-            w,
+            clamp_at(y0, r, at.h) * at.stride,
+            at.w,
             x0,
             cols,
             out,
@@ -99,14 +88,12 @@ pub fn inside(src: i64, n: usize, size: usize) -> bool
     (src as usize) <= size - n
 }
 
-// The square, to out. Where all of it lies inside, nothing needs clamping. Elsewhere `rows` rows of `cols` samples, n or little more, are
-// clamped and the corner taken: with some counts the compiler unrolls both ways into single bytes and slows down the plain copy, and the
-// callers' are the least that do not.
+// The square of n samples a side from column x0, row y0 on, to out. Where all of it lies inside, nothing needs clamping. Elsewhere `rows` rows
+// of `cols` samples, n or little more, are clamped and the corner taken: with some counts the compiler unrolls both ways into single bytes and
+// slows down the plain copy, and the callers' are the least that do not; in a record those three numbers make every copy a call.
 fn fetch(
     plane: &[u8],
-    stride: usize,
-    w: usize,
-    h: usize,
+    at: Place,
     x0: i64,
     y0: i64,
     n: usize,
@@ -114,44 +101,31 @@ fn fetch(
     rows: usize,
     out: &mut [u8],
 )
-    requires { ⌜ Source (planeOf (now plane) stride w h) x0 y0 ⌝ }
+    requires { ⌜ Source (planeAt (now plane) at) x0 y0 ⌝ }
     requires { ⌜ (1 ≤ n) × (n ≤ cols) × (cols ≤ 21) ⌝ }
     requires { ⌜ (n ≤ rows) × (rows ≤ 21) ⌝ }
     requires { ⌜ length (now out) ≡ n * n ⌝ }
-    ensures { λ _. ⌜ now (out .exit) ≡ square n (image (planeOf (now (plane .entry)) stride w h)) x0 y0 ⌝ }
+    ensures { λ _. ⌜ now (out .exit) ≡ square n (image (planeAt (now (plane .entry)) at)) x0 y0 ⌝ }
 {
-    if inside(x0, n, w) {
-        if inside(y0, n, h) {
-            let at = (y0 as usize) * stride + (x0 as usize);
-            copy_rect(
-                out,
-                Spot {
-                    stride: n,
-                    x: 0,
-                    y: 0,
-                },
-                n,
-                n,
-                plane,
-                Window { at, pitch: stride },
-            );
+    let whole = Spot {
+        stride: n,
+        x: 0,
+        y: 0,
+    };
+    if inside(x0, n, at.w) {
+        if inside(y0, n, at.h) {
+            let from = Window {
+                at: (y0 as usize) * at.stride + (x0 as usize),
+                pitch: at.stride,
+            };
+            copy_rect(out, whole, n, n, plane, from);
             return;
         }
     }
     let mut wide = [0u8; 441];
-    clamped(plane, stride, w, h, x0, y0, cols, rows, &mut wide);
-    copy_rect(
-        out,
-        Spot {
-            stride: n,
-            x: 0,
-            y: 0,
-        },
-        n,
-        n,
-        &wide,
-        Window { at: 0, pitch: cols },
-    );
+    clamped(plane, at, x0, y0, cols, rows, &mut wide);
+    let corner = Window { at: 0, pitch: cols };
+    copy_rect(out, whole, n, n, &wide, corner);
 }
 
 // Where a block's samples start on one axis, at whole pixels.
@@ -163,154 +137,82 @@ pub fn origin(at: usize, m: i16) -> i64
 }
 
 // ---- the samples of a block of n a side by its vector, where the call is not refused
-// At whole pixels.
-fn fetch_pixels(
-    plane: &[u8],
-    stride: usize,
-    w: usize,
-    h: usize,
-    x: usize,
-    y: usize,
-    mv: Mv,
-    n: usize,
-    cols: usize,
-    rows: usize,
-    out: &mut [u8],
-)
-    requires { ⌜ planeRefusal (planeOf (now plane) stride w h) x y ≡ 0 ⌝ }
+// At whole pixels: n is the side of the block.
+fn fetch_pixels(plane: &[u8], at: Place, mv: Mv, n: usize, cols: usize, rows: usize, out: &mut [u8])
+    requires { ⌜ Accepted (now plane) at ⌝ }
     requires { ⌜ (1 ≤ n) × (n ≤ cols) × (cols ≤ 21) ⌝ }
     requires { ⌜ (n ≤ rows) × (rows ≤ 21) ⌝ }
     requires { ⌜ length (now out) ≡ n * n ⌝ }
-    ensures { λ _. ⌜ now (out .exit) ≡ pixels n (image (planeOf (now (plane .entry)) stride w h)) x y mv ⌝ }
+    ensures { λ _. ⌜ now (out .exit) ≡ square n (image (planeAt (now (plane .entry)) at)) (pos (at .x) +ℤ wholePart (mv .col)) (pos (at .y) +ℤ wholePart (mv .row)) ⌝ }
 {
-    let x0 = origin(x, mv.col);
-    let y0 = origin(y, mv.row);
-    fetch(plane, stride, w, h, x0, y0, n, cols, rows, out);
+    let x0 = origin(at.x, mv.col);
+    let y0 = origin(at.y, mv.row);
+    fetch(plane, at, x0, y0, n, cols, rows, out);
 }
 
-// With the halo: two before and three after.
-fn fetch_halo(
-    plane: &[u8],
-    stride: usize,
-    w: usize,
-    h: usize,
-    x: usize,
-    y: usize,
-    mv: Mv,
-    n: usize,
-    cols: usize,
-    rows: usize,
-    out: &mut [u8],
-)
-    requires { ⌜ planeRefusal (planeOf (now plane) stride w h) x y ≡ 0 ⌝ }
-    requires { ⌜ (1 ≤ n) × (n + 5 ≤ cols) × (cols ≤ 21) ⌝ }
-    requires { ⌜ (n + 5 ≤ rows) × (rows ≤ 21) ⌝ }
-    requires { ⌜ length (now out) ≡ (n + 5) * (n + 5) ⌝ }
-    ensures { λ _. ⌜ now (out .exit) ≡ halo n (image (planeOf (now (plane .entry)) stride w h)) x y mv ⌝ }
+// With the halo, two before and three after: n is the side of the block and five more.
+fn fetch_halo(plane: &[u8], at: Place, mv: Mv, n: usize, cols: usize, rows: usize, out: &mut [u8])
+    requires { ⌜ Accepted (now plane) at ⌝ }
+    requires { ⌜ (1 ≤ n) × (n ≤ cols) × (cols ≤ 21) ⌝ }
+    requires { ⌜ (n ≤ rows) × (rows ≤ 21) ⌝ }
+    requires { ⌜ length (now out) ≡ n * n ⌝ }
+    ensures { λ _. ⌜ now (out .exit) ≡ square n (image (planeAt (now (plane .entry)) at)) (haloStart (at .x) (mv .col)) (haloStart (at .y) (mv .row)) ⌝ }
 {
-    let x0 = origin(x, mv.col) - 2;
-    let y0 = origin(y, mv.row) - 2;
-    fetch(plane, stride, w, h, x0, y0, n + 5, cols, rows, out);
+    let x0 = origin(at.x, mv.col) - 2;
+    let y0 = origin(at.y, mv.row) - 2;
+    fetch(plane, at, x0, y0, n, cols, rows, out);
 }
 
-pub fn pixels_of_4(
-    plane: &[u8],
-    stride: usize,
-    w: usize,
-    h: usize,
-    x: usize,
-    y: usize,
-    mv: Mv,
-) -> [u8; 16]
-    requires { ⌜ planeRefusal (planeOf (now plane) stride w h) x y ≡ 0 ⌝ }
-    ensures { λ r. ⌜ r ≡ pixels 4 (image (planeOf (now (plane .entry)) stride w h)) x y mv ⌝ }
+pub fn pixels_of_4(plane: &[u8], at: Place, mv: Mv) -> [u8; 16]
+    requires { ⌜ Accepted (now plane) at ⌝ }
+    ensures { λ r. ⌜ r ≡ pixels 4 (image (planeAt (now (plane .entry)) at)) (at .x) (at .y) mv ⌝ }
 {
     let mut out = [0u8; 16];
-    fetch_pixels(plane, stride, w, h, x, y, mv, 4, 5, 5, &mut out);
+    fetch_pixels(plane, at, mv, 4, 5, 5, &mut out);
     out
 }
 
-pub fn pixels_of_8(
-    plane: &[u8],
-    stride: usize,
-    w: usize,
-    h: usize,
-    x: usize,
-    y: usize,
-    mv: Mv,
-) -> [u8; 64]
-    requires { ⌜ planeRefusal (planeOf (now plane) stride w h) x y ≡ 0 ⌝ }
-    ensures { λ r. ⌜ r ≡ pixels 8 (image (planeOf (now (plane .entry)) stride w h)) x y mv ⌝ }
+pub fn pixels_of_8(plane: &[u8], at: Place, mv: Mv) -> [u8; 64]
+    requires { ⌜ Accepted (now plane) at ⌝ }
+    ensures { λ r. ⌜ r ≡ pixels 8 (image (planeAt (now (plane .entry)) at)) (at .x) (at .y) mv ⌝ }
 {
     let mut out = [0u8; 64];
-    fetch_pixels(plane, stride, w, h, x, y, mv, 8, 9, 9, &mut out);
+    fetch_pixels(plane, at, mv, 8, 9, 9, &mut out);
     out
 }
 
-pub fn pixels_of_16(
-    plane: &[u8],
-    stride: usize,
-    w: usize,
-    h: usize,
-    x: usize,
-    y: usize,
-    mv: Mv,
-) -> [u8; 256]
-    requires { ⌜ planeRefusal (planeOf (now plane) stride w h) x y ≡ 0 ⌝ }
-    ensures { λ r. ⌜ r ≡ pixels 16 (image (planeOf (now (plane .entry)) stride w h)) x y mv ⌝ }
+pub fn pixels_of_16(plane: &[u8], at: Place, mv: Mv) -> [u8; 256]
+    requires { ⌜ Accepted (now plane) at ⌝ }
+    ensures { λ r. ⌜ r ≡ pixels 16 (image (planeAt (now (plane .entry)) at)) (at .x) (at .y) mv ⌝ }
 {
     let mut out = [0u8; 256];
-    fetch_pixels(plane, stride, w, h, x, y, mv, 16, 16, 16, &mut out);
+    fetch_pixels(plane, at, mv, 16, 16, 16, &mut out);
     out
 }
 
-pub fn halo_of_4(
-    plane: &[u8],
-    stride: usize,
-    w: usize,
-    h: usize,
-    x: usize,
-    y: usize,
-    mv: Mv,
-) -> [u8; 81]
-    requires { ⌜ planeRefusal (planeOf (now plane) stride w h) x y ≡ 0 ⌝ }
-    ensures { λ r. ⌜ r ≡ halo 4 (image (planeOf (now (plane .entry)) stride w h)) x y mv ⌝ }
+pub fn halo_of_4(plane: &[u8], at: Place, mv: Mv) -> [u8; 81]
+    requires { ⌜ Accepted (now plane) at ⌝ }
+    ensures { λ r. ⌜ r ≡ halo 4 (image (planeAt (now (plane .entry)) at)) (at .x) (at .y) mv ⌝ }
 {
     let mut out = [0u8; 81];
-    fetch_halo(plane, stride, w, h, x, y, mv, 4, 9, 12, &mut out);
+    fetch_halo(plane, at, mv, 9, 9, 12, &mut out);
     out
 }
 
-pub fn halo_of_8(
-    plane: &[u8],
-    stride: usize,
-    w: usize,
-    h: usize,
-    x: usize,
-    y: usize,
-    mv: Mv,
-) -> [u8; 169]
-    requires { ⌜ planeRefusal (planeOf (now plane) stride w h) x y ≡ 0 ⌝ }
-    ensures { λ r. ⌜ r ≡ halo 8 (image (planeOf (now (plane .entry)) stride w h)) x y mv ⌝ }
+pub fn halo_of_8(plane: &[u8], at: Place, mv: Mv) -> [u8; 169]
+    requires { ⌜ Accepted (now plane) at ⌝ }
+    ensures { λ r. ⌜ r ≡ halo 8 (image (planeAt (now (plane .entry)) at)) (at .x) (at .y) mv ⌝ }
 {
     let mut out = [0u8; 169];
-    fetch_halo(plane, stride, w, h, x, y, mv, 8, 13, 13, &mut out);
+    fetch_halo(plane, at, mv, 13, 13, 13, &mut out);
     out
 }
 
-pub fn halo_of_16(
-    plane: &[u8],
-    stride: usize,
-    w: usize,
-    h: usize,
-    x: usize,
-    y: usize,
-    mv: Mv,
-) -> [u8; 441]
-    requires { ⌜ planeRefusal (planeOf (now plane) stride w h) x y ≡ 0 ⌝ }
-    ensures { λ r. ⌜ r ≡ halo 16 (image (planeOf (now (plane .entry)) stride w h)) x y mv ⌝ }
+pub fn halo_of_16(plane: &[u8], at: Place, mv: Mv) -> [u8; 441]
+    requires { ⌜ Accepted (now plane) at ⌝ }
+    ensures { λ r. ⌜ r ≡ halo 16 (image (planeAt (now (plane .entry)) at)) (at .x) (at .y) mv ⌝ }
 {
     let mut out = [0u8; 441];
-    fetch_halo(plane, stride, w, h, x, y, mv, 16, 21, 21, &mut out);
+    fetch_halo(plane, at, mv, 21, 21, 21, &mut out);
     out
 }

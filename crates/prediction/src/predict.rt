@@ -148,9 +148,9 @@ pub fn predict_inter_mb_whole_pixel(
     Prediction {
         number,
         samples: ReconstructedMb {
-            y: pixels_of_16(y, y_at.stride, y_at.w, y_at.h, y_at.x, y_at.y, luma),
-            u: pixels_of_8(u, u_at.stride, u_at.w, u_at.h, u_at.x, u_at.y, chroma),
-            v: pixels_of_8(v, v_at.stride, v_at.w, v_at.h, v_at.x, v_at.y, chroma),
+            y: pixels_of_16(y, y_at, luma),
+            u: pixels_of_8(u, u_at, chroma),
+            v: pixels_of_8(v, v_at, chroma),
         },
     }
 }

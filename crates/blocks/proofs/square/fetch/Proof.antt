@@ -10,9 +10,8 @@ use mir.Syntax.{w64}
 use Rattle.signed.specs.Int.{dn}
 use Rattle.signed.specs.Held.{Held, par-in, nat-need}
 use Rattle.rfc6386.specs.Picture.{Plane}
-use Rattle.rfc6386.specs.Block.{planeOf}
 use Rattle.rfc6386.specs.Laws.Raster.{row-fits, written-all}
-use Rattle.blocks.specs.Places.{Lies}
+use Rattle.blocks.specs.Places.{Lies, planeAt}
 use Rattle.blocks.proofs.Squares.{source-as, square-as, starts, plain-held, plain-is, corner-is, square-room}
 use Rattle.blocks.proofs.square.fetch.Statement.{statement}
 use Rattle.blocks.proofs.square.fetch.Tie as tie
@@ -24,30 +23,30 @@ abbrev y0 : (c : tie.Start) → Held w64 (c .args .y0) 1048576 1048576
 y0 c = par-in (c .fits .y0) (c .pre .0 .near-y)
 
 abbrev plane : tie.Start → Plane
-plane c = let a = c .args in planeOf (a .plane .now) (a .stride) (a .w) (a .h)
+plane c = let a = c .args in planeAt (a .plane .now) (a .at)
 
 -- ---- all of it inside
 abbrev entry : tie.Then2 → tie.Start
 entry c = c .before .before .before .before .before .before
 
-from-x : (c : tie.Then2) → let s = entry c in Lies (s .args .x0) (s .args .n) (s .args .w) (natAbs (x0 s .val))
+from-x : (c : tie.Then2) → let s = entry c in Lies (s .args .x0) (s .args .n) (s .args .at .w) (natAbs (x0 s .val))
 from-x c = let i = c .before .before .before in starts (x0 (entry c)) (i .inside .ensures (c .before .before .if1 .taken))
 
-from-y : (c : tie.Then2) → let s = entry c in Lies (s .args .y0) (s .args .n) (s .args .h) (natAbs (y0 s .val))
+from-y : (c : tie.Then2) → let s = entry c in Lies (s .args .y0) (s .args .n) (s .args .at .h) (natAbs (y0 s .val))
 from-y c = starts (y0 (entry c)) (c .before .inside2 .ensures (c .if2 .taken))
 
 -- each row lies in the plane
 held : (c : tie.Then2) → let a = entry c .args in
-    (r : ℕ) → r < a .n → natAbs (y0 (entry c) .val) * a .stride + natAbs (x0 (entry c) .val) + r * a .stride + a .n ≤ length (a .plane .now)
+    (r : ℕ) → r < a .n → natAbs (y0 (entry c) .val) * a .at .stride + natAbs (x0 (entry c) .val) + r * a .at .stride + a .n ≤ length (a .plane .now)
 held c = plain-held (entry c .pre .0 .fits) (from-x c) (from-y c)
 
 copy-rect-requires : tie.Need-copy-rect-requires
-copy-rect-requires c κs = let s = entry (c .before) in (square-room (s .pre .1 .0 .0) (s .pre .1 .1 .1), held (c .before))
+copy-rect-requires c κs = let s = entry (c .before .before) in (square-room (s .pre .1 .0 .0) (s .pre .1 .1 .1), held (c .before .before))
 
 returns : tie.Need-returns
 returns c =
     let call = c .before .before in
-    let t = call .before .before in
+    let t = call .before .before .before in
     let s = entry t in
     call .copy-rect .ensures
     ∙ written-all (s .args .out .now) (s .args .n) (s .args .n) _ (s .pre .1 .1 .1)
@@ -71,7 +70,7 @@ copy-rect-requires-2 c κs =
     let call = c .before .before .before in
     let s = start (call .before) in (
       square-room (s .pre .1 .0 .0) (s .pre .1 .1 .1),
-      λ r h. omega (arith, row-fits r (s .args .rows) (s .args .cols) (omega arith), fits (call .before), call .clamped .kept .1 .1 .1 .1 .1 .1 .1 .1 .0),
+      λ r h. omega (arith, row-fits r (s .args .rows) (s .args .cols) (omega arith), fits (call .before), call .clamped .kept .1 .1 .1 .1 .1 .1 .0),
     )
 
 returns-2 : tie.Need-returns-2
@@ -90,9 +89,9 @@ fetch-spec =
     (λ c κs. search needs)
     (λ c κs. search needs)
     (λ c. nat-need (y0 (entry c)) (ap dn (from-y c .is)) tt)
-    (λ c. omega (arith, held c 0 (entry c .pre .1 .0 .0)))
-    (λ c. nat-need (x0 (entry c)) (ap dn (from-x c .is)) tt)
-    (λ c. omega (arith, held c 0 (entry c .pre .1 .0 .0)))
+    (λ c. omega (arith, held (c .before) 0 (entry (c .before) .pre .1 .0 .0)))
+    (λ c. nat-need (x0 (entry (c .before))) (ap dn (from-x (c .before) .is)) tt)
+    (λ c. omega (arith, held (c .before) 0 (entry (c .before) .pre .1 .0 .0)))
     copy-rect-requires
     (λ c. search needs)
     returns

@@ -13,13 +13,13 @@ use Rattle.blocks.proofs.square.fetch_halo.Tie as tie
 
 -- the column and the row of the block, as the machine holds them
 module _ (c : tie.After-origin) where
-  abbrev x0 : Held w64 (pos (c .before .before .before .before .args .x) +ℤ wholePart (c .before .before .before .before .args .mv .col)) 20478 4096
+  abbrev x0 : Held w64 (pos (c .before .before .before .before .args .at .x) +ℤ wholePart (c .before .before .before .before .args .mv .col)) 20478 4096
   x0 =
       let s = c .before .before .before .before in
       placed _ (s .args .mv .col) (c .origin .result) (under-x (plane-accepts _ _ _ (s .pre .0))) (c .before .struct-told .given .1 .0 .1) (c .origin .ok) (c .origin .ensures)
 
 module _ (c : tie.After-origin2) where
-  abbrev y0 : Held w64 (pos (c .before .before .before .before .before .before .args .y) +ℤ wholePart (c .before .before .before .before .before .before .args .mv .row)) 20478 4096
+  abbrev y0 : Held w64 (pos (c .before .before .before .before .before .before .args .at .y) +ℤ wholePart (c .before .before .before .before .before .before .args .mv .row)) 20478 4096
   y0 =
       let s = c .before .before .before .before .before .before in
       placed _ (s .args .mv .row) (c .origin2 .result) (under-y (plane-accepts _ _ _ (s .pre .0))) (c .before .struct-told2 .given .0 .1) (c .origin2 .ok) (c .origin2 .ensures)
@@ -41,11 +41,11 @@ fetch-requires c κs =
     let o = c .before in
     let s = o .before .before .before .before .before .before in (
       source-of (plane-accepts _ _ _ (s .pre .0)) (sub (x0 (o .before .before)) (lit 2 tt) tt) (sub (y0 o) (lit 2 tt) tt) (omega arith, omega arith, omega arith, omega arith),
-      ((omega arith, s .pre .1 .0 .1, s .pre .1 .0 .2), (s .pre .1 .1 .0, s .pre .1 .1 .1)),
+      (s .pre .1 .0, (s .pre .1 .1 .0, s .pre .1 .1 .1)),
     )
 
 returns : tie.Need-returns
 returns c = let o = c .before .before .before .before in square-as (sub (x0 (o .before .before)) (lit 2 tt) tt) (sub (y0 o) (lit 2 tt) tt) _ _ (c .before .before .fetch .ensures)
 
 pub fetch-halo-spec : {M : Type 1} → statement M
-fetch-halo-spec = tie.close (tie.spec origin-requires sub-x0 origin-requires-2 sub-y0 (λ c. search needs) fetch-requires (λ c. search needs) returns)
+fetch-halo-spec = tie.close (tie.spec origin-requires sub-x0 origin-requires-2 sub-y0 fetch-requires (λ c. search needs) returns)

@@ -13,13 +13,13 @@ use Rattle.blocks.proofs.square.fetch_pixels.Tie as tie
 
 -- the column and the row of the block, as the machine holds them
 module _ (c : tie.After-origin) where
-  abbrev x0 : Held w64 (pos (c .before .before .before .before .args .x) +ℤ wholePart (c .before .before .before .before .args .mv .col)) 20478 4096
+  abbrev x0 : Held w64 (pos (c .before .before .before .before .args .at .x) +ℤ wholePart (c .before .before .before .before .args .mv .col)) 20478 4096
   x0 =
       let s = c .before .before .before .before in
       placed _ (s .args .mv .col) (c .origin .result) (under-x (plane-accepts _ _ _ (s .pre .0))) (c .before .struct-told .given .1 .0 .1) (c .origin .ok) (c .origin .ensures)
 
 module _ (c : tie.After-origin2) where
-  abbrev y0 : Held w64 (pos (c .before .before .before .before .before .before .args .y) +ℤ wholePart (c .before .before .before .before .before .before .args .mv .row)) 20478 4096
+  abbrev y0 : Held w64 (pos (c .before .before .before .before .before .before .args .at .y) +ℤ wholePart (c .before .before .before .before .before .before .args .mv .row)) 20478 4096
   y0 =
       let s = c .before .before .before .before .before .before in
       placed _ (s .args .mv .row) (c .origin2 .result) (under-y (plane-accepts _ _ _ (s .pre .0))) (c .before .struct-told2 .given .0 .1) (c .origin2 .ok) (c .origin2 .ensures)
