@@ -17,9 +17,10 @@ use Rattle.residue.specs.Reconstruction.{finishedUnless}
 use Rattle.residue.specs.Domain.{zero-late}
 use Rattle.residue.specs.Merging.{Alike, alike-seeded, split-count}
 use Rattle.rfc6386.specs.Refusal.{codeRefusal}
-use Rattle.threshowl.specs.Boundary.{setOf, flagOf, codesRefusal, vectorsOf, flat, callNumber}
+use Rattle.vector_bytes.specs.Bytes.{vectorsOf}
+use Rattle.threshowl.specs.Boundary.{setOf, flagOf, codesRefusal, flat, callNumber}
 use Rattle.threshowl.specs.Finished.{Finishes}
-use Rattle.threshowl.proofs.Carried.{sixteenSpelled, spelled-is}
+use Rattle.vector_bytes.specs.Spelled.{sixteenSpelled, spelled-is}
 use Rattle.rfc6386.specs.declared.Mv.{Mv}
 use Rattle.rfc6386.specs.declared.Prediction.{Prediction}
 

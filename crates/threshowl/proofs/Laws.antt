@@ -6,27 +6,17 @@ use Prim.Native.Nat.{ℕ, zero, suc, _+_, _-_, _<_, _≤_}
 use native.Mathlib.Numerals.{add-one}
 use native.Mathlib.Omega.{arith}
 use lib.Dec.{eqb}
-use lib.ListN.{length, getD, set, drop, replicate, length-append, length-drop, drop-of-length-le}
-use lib.Seq.{paste, paste-suc, getD-set-same, getD-set-other, take-at, take-length, drop-append-add}
-use lib.IntN.{pos, negsuc, _-ℤ_}
-use mir.Syntax.{w16}
-use mir.Val.{SFits, toZ, ofZ}
-use mir.Facts.{toZ-pos}
-use borrow.Author.Tests.{eqb-true, eq-eqb, ne-eqb}
-use borrow.Author.Count.{below-more}
-use Rattle.signed.specs.Int.{int, diff}
-use Rattle.signed.specs.Held.{Held, nat-at, lit-neg, sub, sub-need}
-use Rattle.rfc6386.specs.Number.{wrap16}
-use Rattle.rfc6386.specs.Vector.{Lowering, zeroVector}
-use Rattle.rfc6386.specs.Raster.{tab}
+use lib.ListN.{length, getD, set, drop, length-append, length-drop, drop-of-length-le}
+use lib.Seq.{paste, paste-suc, take-at, take-length, drop-append-add}
+use borrow.Author.Tests.{eqb-true}
+use Rattle.rfc6386.specs.Vector.{Lowering}
 use Rattle.rfc6386.specs.Filter.{versionProfile}
-use Rattle.rfc6386.specs.Refusal.{orElse, ifDone, countRefusal, roomRefusal}
+use Rattle.rfc6386.specs.Refusal.{orElse, countRefusal, roomRefusal}
 use Rattle.rfc6386.specs.Version.{reservedVersion, byVersion}
 use Rattle.rfc6386.specs.Promises.{one-result}
-use Rattle.rfc6386.specs.Laws.Vectors.{wrap-in, wrap-high}
 use Rattle.rfc6386.specs.Laws.Refusals.{done, refused}
 use Rattle.rfc6386.specs.Laws.Versions.{refused-by}
-use Rattle.threshowl.specs.Boundary.{setOf, vectorAt, vectorsOf, flat, callNumber, Left}
+use Rattle.threshowl.specs.Boundary.{setOf, flat, callNumber, Left}
 use Rattle.rfc6386.specs.declared.FilterSet.{FilterSet}
 use Rattle.rfc6386.specs.declared.FilterSet.the-variants.{Bilinear}
 use Rattle.rfc6386.specs.declared.Profile.{Profile}
@@ -35,30 +25,6 @@ use Rattle.rfc6386.specs.declared.Prediction.{Prediction}
 pub set-other : (n : ℕ) → (n ≡ 0 → ⊥) → Bilinear ≡ setOf n
 set-other zero h = absurd (h refl)
 set-other (suc n) h = refl
-
--- ---- sixteen bits, read as signed
-pub read-low : (n : ℕ) → n < 32768 → toZ w16 n ≡ wrap16 (pos n)
-read-low n h = toZ-pos w16 h ∙ sym (wrap-in (pos n) (omega arith) (omega arith))
-
--- -1 - (65535 - n), as the machine computes it
-abbrev under : (n : ℕ) → 32768 ≤ n → Held w16 (negsuc 0 -ℤ pos (65535 - n)) (0 + 0) (1 + 32767)
-under n h = sub (lit-neg 0 tt) (nat-at (65535 - n) 32767 (omega arith) tt) tt
-
-pub under-fits : (n : ℕ) → 32768 ≤ n → SFits w16 (negsuc 0 -ℤ toZ w16 (65535 - n))
-under-fits n h = sub-need (lit-neg 0 tt) (nat-at (65535 - n) 32767 (omega arith) tt) tt
-
-pub read-high : (n : ℕ) → 32768 ≤ n → n < 65536 → toZ w16 (ofZ w16 (negsuc 0 -ℤ toZ w16 (65535 - n))) ≡ wrap16 (pos n)
-read-high n h k =
-    let e : negsuc 0 -ℤ pos (65535 - n) ≡ pos n -ℤ pos 65536 = omega (int, diff (negsuc 0) (pos (65535 - n)), diff (pos n) (pos 65536)) in
-    under n h .is ∙ e ∙ sym (wrap-high (pos n) (omega arith) (omega arith))
-
--- one more store of a loop that fills a list by index
-pub fill-more : {A : Type 0} (d : A) (f : ℕ → A) (l : List A) (i : ℕ) (v : A) → i < length l → v ≡ f i → ((k : ℕ) → k < i → getD l k d ≡ f k)
-    → (k : ℕ) → k < i + 1 → getD (set l i v) k d ≡ f k
-fill-more d f l i v h e below =
-    below-more (λ (k : ℕ). getD (set l i v) k d ≡ f k) i
-    (λ k m. getD-set-other l i k v d (λ same. omega arith) ∙ below k m)
-    (getD-set-same l i v d h ∙ e)
 
 -- ---- samples written
 -- a turn of the loop that copies
@@ -132,13 +98,3 @@ module _ (version : ℕ) (standard : Bool) {p : Profile} (is : p ≡ versionProf
 -- ---- THEOREM. No two outcomes meet the contract of a C function: its number, and the bytes that it leaves.
 pub one-outcome : {p : Prediction} {codes : ℕ} {out : List ℕ} {r s : ℕ} {a b : List ℕ} → Left p codes out r a → Left p codes out s b → (r ≡ s) × (a ≡ b)
 one-outcome h k = (one-result (h .number-is) (k .number-is), one-result (h .bytes-are) (k .bytes-are))
-
--- ---- vectors
--- sixteen out of 64 bytes, and zeros out of any other number
-pub vectors-read : (b : List ℕ) → length b ≡ 64 → vectorsOf b ≡ tab 16 (vectorAt b)
-unfolding vectorsOf ifDone
-vectors-read b e = ap (λ (t : Bool). ifDone (cond t 0 6) (tab 16 (vectorAt b)) (replicate 16 zeroVector)) (eq-eqb (length b) 64 e)
-
-pub vectors-none : (b : List ℕ) → (length b ≡ 64 → ⊥) → vectorsOf b ≡ replicate 16 zeroVector
-unfolding vectorsOf ifDone
-vectors-none b n = ap (λ (t : Bool). ifDone (cond t 0 6) (tab 16 (vectorAt b)) (replicate 16 zeroVector)) (ne-eqb (length b) 64 n)

@@ -1,17 +1,15 @@
--- What crosses the boundary: codes and flags, vectors as bytes, and the samples of a macroblock as 384 bytes.
+-- What crosses the boundary: codes and flags, and the samples of a macroblock as 384 bytes.
 use mathlib.Core.Path.{_≡_}
-use mathlib.Core.Bool.{Bool, cond, not}
+use mathlib.Core.Bool.{Bool, not}
 use mathlib.Core.List.{List, _++_}
-use Prim.Native.Nat.{ℕ, zero, suc, _+_, _*_}
-use lib.Dec.{ltb, eqb}
-use lib.ListN.{length, getD, replicate}
-use lib.IntN.{ℤ, pos}
-use Rattle.rfc6386.specs.Number.{wrap16}
-use Rattle.rfc6386.specs.Vector.{zeroVector, fullPixel}
-use Rattle.rfc6386.specs.Raster.{tab}
+use Prim.Native.Nat.{ℕ, zero, suc, _+_}
+use lib.Dec.{eqb}
+use lib.ListN.{length}
+use lib.IntN.{ℤ}
+use Rattle.rfc6386.specs.Vector.{fullPixel}
 use Rattle.rfc6386.specs.Refusal.{orElse, ifDone, codeRefusal, countRefusal, roomRefusal}
 use Rattle.rfc6386.specs.Macroblock.{Reference, lent, whole, split}
-use Rattle.rfc6386.specs.declared.Mv.{Mv}
+use Rattle.vector_bytes.specs.Bytes.{vectorsOf}
 use Rattle.rfc6386.specs.declared.FilterSet.{FilterSet}
 use Rattle.rfc6386.specs.declared.FilterSet.the-variants.{Sixtap, Bilinear}
 use Rattle.rfc6386.specs.declared.ReconstructedMb.{ReconstructedMb}
@@ -31,19 +29,6 @@ flagOf n = not (eqb n 0)
 -- of a call that is lent its vectors as bytes: 5 comes before 6
 abbrev pub codesRefusal : ℕ → ℕ → ℕ
 codesRefusal code count = orElse (codeRefusal code) (countRefusal 64 count)
-
--- a signed 16-bit number, its low byte first
-abbrev pub int16 : ℕ → ℕ → ℤ
-int16 low high = wrap16 (pos (low + 256 * high))
-
--- vector i: two such numbers, row before column
-abbrev pub vectorAt : List ℕ → ℕ → Mv
-vectorAt b i =
-    record { row = int16 (getD b (4 * i) 0) (getD b (4 * i + 1) 0); col = int16 (getD b (4 * i + 2) 0) (getD b (4 * i + 3) 0) }
-
--- sixteen of them, and zeros where there are not 64 bytes
-unfoldable pub vectorsOf : List ℕ → List Mv
-vectorsOf b = ifDone (countRefusal 64 (length b)) (tab 16 (vectorAt b)) (replicate 16 zeroVector)
 
 -- ---- the prediction that a call asks for
 -- the picture that is lent: three planes, the stride of each, and how many macroblocks it has

@@ -5,7 +5,6 @@ ghost use Rattle.rfc6386.specs.Macroblock.{lent, whole, split};
 ghost use Rattle.rfc6386.specs.Refusal.{codeRefusal};
 ghost use Rattle.threshowl.specs.Boundary.{setOf, codesRefusal, pictureOf, wholeBy, splitBy, Left};
 use crate::output::write_samples;
-use crate::vectors::mvs_of_bytes;
 use motion_vectors::are_one;
 use prediction::predict_inter_mb_lowered;
 use prediction::predict_split_mv_lowered;
@@ -18,6 +17,7 @@ use rfc6386::FilterSet;
 use rfc6386::Mv;
 use rfc6386::Prediction;
 use rfc6386::Sizes;
+use vector_bytes::mvs_of_bytes;
 
 pub fn set_of(filter: u8) -> FilterSet
     ensures { λ r. ⌜ r ≡ setOf filter ⌝ }

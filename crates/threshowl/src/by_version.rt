@@ -4,14 +4,15 @@
 ghost use lib.ListN.{length};
 ghost use Rattle.rfc6386.specs.Version.{wholeByVersion, splitByVersion};
 ghost use Rattle.rfc6386.specs.Refusal.{countRefusal};
-ghost use Rattle.threshowl.specs.Boundary.{flagOf, vectorsOf, pictureOf, Left};
+ghost use Rattle.vector_bytes.specs.Bytes.{vectorsOf};
+ghost use Rattle.threshowl.specs.Boundary.{flagOf, pictureOf, Left};
 use crate::boundary::split_into;
 use crate::boundary::whole_into;
-use crate::vectors::mvs_of_bytes;
 use numbers::VERSION;
 use refusals::count_refusal;
 use rfc6386::Mv;
 use rfc6386::Sizes;
+use vector_bytes::mvs_of_bytes;
 use versions::lowers_luma;
 use versions::profile_for_version;
 

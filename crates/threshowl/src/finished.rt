@@ -13,7 +13,6 @@ use crate::boundary::codes_refusal;
 use crate::boundary::set_of;
 use crate::boundary::split_into;
 use crate::boundary::whole_into;
-use crate::vectors::mvs_of_bytes;
 use motion_vectors::chroma_vector;
 use motion_vectors::luma_vector;
 use prediction::fraction_left;
@@ -27,6 +26,7 @@ use residue::whole_refusal;
 use rfc6386::FilterSet;
 use rfc6386::Mv;
 use rfc6386::Sizes;
+use vector_bytes::mvs_of_bytes;
 
 // Number 8 for a vector that leaves a fraction.
 fn fraction_refusal(mv: Mv, full_pixel: bool) -> u32

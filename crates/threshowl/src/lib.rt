@@ -5,4 +5,3 @@ pub mod finished;
 mod output;
 pub mod pictures;
 pub mod recordings;
-mod vectors;

@@ -1,10 +1,10 @@
-// Sixteen vectors from 64 bytes. Zeros from any other number of bytes, so that the call still has a prediction, whose number comes before that of
-// the length.
+// Vectors as bytes, as C hands them over.
 ghost use mathlib.Core.Path.{_≡_};
-ghost use Rattle.threshowl.specs.Boundary.{int16, vectorsOf};
+ghost use Rattle.vector_bytes.specs.Bytes.{int16, vectorsOf};
 use rfc6386::Mv;
 
-fn read_i16(low: u8, high: u8) -> i16
+// A signed number from its two bytes, the low one first.
+pub fn read_i16(low: u8, high: u8) -> i16
     ensures { λ r. ⌜ r ≡ int16 low high ⌝ }
 {
     let n = (low as u16) + 256 * (high as u16);
@@ -14,6 +14,8 @@ fn read_i16(low: u8, high: u8) -> i16
     -1 - ((65535 - n) as i16)
 }
 
+// Sixteen vectors from 64 bytes. Zeros from any other number of bytes, so that a call still has a prediction, whose number comes before that of
+// the length.
 pub fn mvs_of_bytes(b: &[u8]) -> [Mv; 16]
     ensures { λ r. ⌜ r ≡ vectorsOf (now (b .entry)) ⌝ }
 {

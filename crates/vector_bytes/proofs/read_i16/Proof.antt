@@ -1,10 +1,10 @@
--- `threshowl::vectors::read_i16` meets its contract. Assumes nothing.
+-- `read_i16` meets its contract. Assumes nothing.
 use Prim.Native.Nat.{_+_, _*_}
 use native.Mathlib.Omega.{arith}
 use borrow.Author.Needs.{needs}
-use Rattle.threshowl.proofs.Laws.{read-low, under-fits, read-high}
-use Rattle.threshowl.proofs.vectors.read_i16.Statement.{statement}
-use Rattle.threshowl.proofs.vectors.read_i16.Tie as tie
+use Rattle.vector_bytes.proofs.Laws.{read-low, under-fits, read-high}
+use Rattle.vector_bytes.proofs.read_i16.Statement.{statement}
+use Rattle.vector_bytes.proofs.read_i16.Tie as tie
 
 mul-n : tie.Need-mul-n
 mul-n c = search needs

@@ -1,4 +1,4 @@
--- `vectors::mvs_of_bytes` meets its contract: the loop has read the first i vectors. Assumes nothing.
+-- `mvs_of_bytes` meets its contract: the loop has read the first i vectors. Assumes nothing.
 use borrow.Author.Count.{below-none}
 use borrow.Author.Needs.{needs}
 use mathlib.Core.Path.{_≡_, refl, sym, _∙_}
@@ -9,10 +9,11 @@ use mir.Syntax.{w16}
 use Rattle.signed.specs.Held.{got}
 use Rattle.rfc6386.specs.Vector.{zeroVector}
 use Rattle.rfc6386.specs.Laws.Raster.{is-tab}
-use Rattle.threshowl.specs.Boundary.{vectorAt}
-use Rattle.threshowl.proofs.Laws.{fill-more, vectors-read, vectors-none}
-use Rattle.threshowl.proofs.vectors.mvs_of_bytes.Statement.{statement}
-use Rattle.threshowl.proofs.vectors.mvs_of_bytes.Tie as tie
+use Rattle.vector_bytes.specs.Bytes.{vectorAt}
+use Rattle.vector_bytes.specs.Laws.{vectors-read, vectors-none}
+use Rattle.vector_bytes.proofs.Laws.{fill-more}
+use Rattle.vector_bytes.proofs.mvs_of_bytes.Statement.{statement}
+use Rattle.vector_bytes.proofs.mvs_of_bytes.Tie as tie
 
 abbrev Inv-loop : tie.InvT-loop
 Inv-loop b mvs₀ i₀ mvs i = (i ≤ 16) × (length mvs ≡ 16) × ((k : ℕ) → k < i → getD mvs k zeroVector ≡ vectorAt b k)
