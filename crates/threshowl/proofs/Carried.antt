@@ -26,8 +26,10 @@ use Rattle.rfc6386.specs.Laws.Merging.{zeros-bytes}
 use Rattle.rfc6386.specs.Laws.Versions.{versionLowering, whole-meant, split-meant, whole-reserved, split-reserved}
 use Rattle.vector_bytes.specs.Bytes.{vectorsOf}
 use Rattle.vector_bytes.specs.Spelled.{sixteenSpelled, spelled-is}
-use Rattle.threshowl.specs.Boundary.{setOf, flagOf, flat, callNumber, Left}
-use Rattle.threshowl.proofs.Laws.{left-as, left-refused, codes-as, one-outcome}
+use Rattle.outputs.specs.Output.{flat, callNumber, Left}
+use Rattle.threshowl.specs.Boundary.{setOf, flagOf}
+use Rattle.outputs.specs.Laws.{left-as, left-refused, one-outcome}
+use Rattle.threshowl.proofs.Laws.{codes-as}
 use Rattle.rfc6386.specs.declared.Mv.{Mv}
 use Rattle.rfc6386.specs.declared.FilterSet.{FilterSet}
 use Rattle.rfc6386.specs.declared.ReconstructedMb.{ReconstructedMb}

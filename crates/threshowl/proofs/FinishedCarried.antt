@@ -18,7 +18,8 @@ use Rattle.residue.specs.Domain.{zero-late}
 use Rattle.residue.specs.Merging.{Alike, alike-seeded, split-count}
 use Rattle.rfc6386.specs.Refusal.{codeRefusal}
 use Rattle.vector_bytes.specs.Bytes.{vectorsOf}
-use Rattle.threshowl.specs.Boundary.{setOf, flagOf, codesRefusal, flat, callNumber}
+use Rattle.outputs.specs.Output.{flat, callNumber}
+use Rattle.threshowl.specs.Boundary.{setOf, flagOf, codesRefusal}
 use Rattle.threshowl.specs.Finished.{Finishes}
 use Rattle.vector_bytes.specs.Spelled.{sixteenSpelled, spelled-is}
 use Rattle.rfc6386.specs.declared.Mv.{Mv}

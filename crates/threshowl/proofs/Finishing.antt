@@ -8,31 +8,25 @@ use lib.ListN.{length, getD, length-append, List·getD-append}
 use lib.Seq.{getD-append-add}
 use lib.IntN.{ℤ}
 use Rattle.rfc6386.specs.Vector.{Lowering, lumaVector, chromaVector, isWhole}
-use Rattle.rfc6386.specs.Picture.{image, blockBy}
+use Rattle.rfc6386.specs.Picture.{image}
 use Rattle.rfc6386.specs.Raster.{tab}
 use Rattle.rfc6386.specs.Refusal.{orElse, ifDone, roomRefusal}
-use Rattle.rfc6386.specs.Macroblock.{Reference, planeY, planeU, planeV, refusal, wholeSamples, splitSamples, pixelSamples, noSamples, answered, whole, split, fractionLeft}
-use Rattle.rfc6386.specs.Laws.Raster.{is-tab, length-raster}
+use Rattle.rfc6386.specs.Macroblock.{Reference, planeY, planeU, planeV, refusal, wholeSamples, pixelSamples, noSamples, answered, whole, fractionLeft}
+use Rattle.rfc6386.specs.Laws.Raster.{is-tab}
 use Rattle.rfc6386.specs.Laws.Refusals.{done, refused, or-else-zero}
-use Rattle.rfc6386.specs.Laws.Blocks.{length-block}
 use Rattle.rfc6386.specs.Laws.Halos.{whole-block}
 use Rattle.residue.specs.Coefficients.{finishedPlane, finished}
 use Rattle.residue.specs.Reconstruction.{finishedUnless}
 use Rattle.residue.specs.Inner.{piece}
-use Rattle.threshowl.specs.Boundary.{flat, callNumber, Left}
+use Rattle.outputs.specs.Output.{flat, callNumber, Left}
 use Rattle.threshowl.specs.Finished.{lateNumber, Finishes, pixelsAt, finishedBytes}
-use Rattle.threshowl.proofs.Laws.{has-room, zeros}
+use Rattle.outputs.specs.Laws.{Counted, has-room, zeros}
 use Rattle.rfc6386.specs.declared.Mv.{Mv}
 use Rattle.rfc6386.specs.declared.FilterSet.{FilterSet}
 use Rattle.rfc6386.specs.declared.ReconstructedMb.{ReconstructedMb}
 use Rattle.rfc6386.specs.declared.Prediction.{Prediction}
 
 -- ---- the samples of a macroblock
-pub record Counted (s : ReconstructedMb) : Type 0 where
-  pub y : length (s .y) ≡ 256
-  pub u : length (s .u) ≡ 64
-  pub v : length (s .v) ≡ 64
-
 -- part of a list that is two
 piece-front : (a b : List ℕ) (n : ℕ) → length a ≡ n → piece (a ++ b) 0 n ≡ a
 unfolding piece
@@ -64,28 +58,6 @@ bytes-finished false c s n =
     ∙ piece-back (s .y ++ s .u) (s .v) 320 64 long
     ∙ piece-empty (s .v) 64 (n .v) in
     λ t. finishedPlane 16 c 0 (y t) ++ (finishedPlane 8 c 256 (u t) ++ finishedPlane 8 c 320 (v t))
-
--- ---- of accepted predictions
-counted : (n : ℕ) (s : ReconstructedMb) → n ≡ 0 → Counted s → Counted (answered n s .samples)
-unfolding answered
-counted n s e h = subst Counted (sym (done s noSamples e)) h
-
-module _ (set : FilterSet) (low : Lowering) (ref : Reference) (col row : ℕ) where
-  pub whole-counted : (v : Mv) → whole set low ref col row v .number ≡ 0 → Counted (whole set low ref col row v .samples)
-  unfolding whole answered wholeSamples
-  whole-counted v e =
-      counted (refusal ref col row) (wholeSamples set low ref col row v) e
-      (record {
-        y = length-block 16 set (image (planeY ref)) (col * 16) (row * 16) (lumaVector low v);
-        u = length-block 8 set (image (planeU ref)) (col * 8) (row * 8) (chromaVector low v);
-        v = length-block 8 set (image (planeV ref)) (col * 8) (row * 8) (chromaVector low v);
-      })
-
-  pub split-counted : (vs : List Mv) → split set low ref col row vs .number ≡ 0 → Counted (split set low ref col row vs .samples)
-  unfolding split answered splitSamples blockBy
-  split-counted vs e =
-      counted (refusal ref col row) (splitSamples set low ref col row vs) e
-      (record { y = length-raster 16 16 _; u = length-raster 8 8 _; v = length-raster 8 8 _ })
 
 -- ---- the number
 late-last : (a b r l : ℕ) → orElse a (orElse (orElse b (orElse r l)) r) ≡ orElse (orElse a (orElse b r)) l

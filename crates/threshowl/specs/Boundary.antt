@@ -1,18 +1,15 @@
--- What crosses the boundary: codes and flags, and the samples of a macroblock as 384 bytes.
-use mathlib.Core.Path.{_≡_}
+-- What crosses the boundary: codes and flags, and what a call asks for by them.
 use mathlib.Core.Bool.{Bool, not}
-use mathlib.Core.List.{List, _++_}
-use Prim.Native.Nat.{ℕ, zero, suc, _+_}
+use mathlib.Core.List.{List}
+use Prim.Native.Nat.{ℕ, zero, suc}
 use lib.Dec.{eqb}
-use lib.ListN.{length}
 use lib.IntN.{ℤ}
 use Rattle.rfc6386.specs.Vector.{fullPixel}
-use Rattle.rfc6386.specs.Refusal.{orElse, ifDone, codeRefusal, countRefusal, roomRefusal}
+use Rattle.rfc6386.specs.Refusal.{orElse, codeRefusal, countRefusal}
 use Rattle.rfc6386.specs.Macroblock.{Reference, lent, whole, split}
 use Rattle.vector_bytes.specs.Bytes.{vectorsOf}
 use Rattle.rfc6386.specs.declared.FilterSet.{FilterSet}
 use Rattle.rfc6386.specs.declared.FilterSet.the-variants.{Sixtap, Bilinear}
-use Rattle.rfc6386.specs.declared.ReconstructedMb.{ReconstructedMb}
 use Rattle.rfc6386.specs.declared.Prediction.{Prediction}
 
 -- ---- codes
@@ -42,17 +39,3 @@ wholeBy filter full ref mb-col mb-row row col = whole (setOf filter) (fullPixel 
 
 abbrev pub splitBy : ℕ → ℕ → Reference → ℕ → ℕ → List ℕ → Prediction
 splitBy filter full ref mb-col mb-row vectors = split (setOf filter) (fullPixel (flagOf full)) ref mb-col mb-row (vectorsOf vectors)
-
--- ---- the output
--- the samples of a macroblock one after the other
-abbrev pub flat : ReconstructedMb → List ℕ
-flat s = s .y ++ (s .u ++ s .v)
-
--- a call's number: the prediction's own, then that of its codes, then 7
-abbrev pub callNumber : Prediction → ℕ → List ℕ → ℕ
-callNumber p codes out = orElse (p .number) (orElse codes (roomRefusal (length out)))
-
--- what a call leaves: its number r, and the output's bytes, which it keeps where it refuses
-pub record Left (p : Prediction) (codes : ℕ) (out : List ℕ) (r : ℕ) (out′ : List ℕ) : Type 0 where
-  pub number-is : r ≡ callNumber p codes out
-  pub bytes-are : out′ ≡ ifDone (callNumber p codes out) (flat (p .samples)) out

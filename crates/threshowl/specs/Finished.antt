@@ -10,7 +10,7 @@ use Rattle.rfc6386.specs.Macroblock.{Reference, refusal, pixelSamples, answered
 use Rattle.residue.specs.Coefficients.{finishedPlane}
 use Rattle.residue.specs.Reconstruction.{finishedUnless}
 use Rattle.residue.specs.Inner.{piece}
-use Rattle.threshowl.specs.Boundary.{flat, callNumber}
+use Rattle.outputs.specs.Output.{flat, callNumber}
 use Rattle.rfc6386.specs.declared.Mv.{Mv}
 use Rattle.rfc6386.specs.declared.Prediction.{Prediction}
 

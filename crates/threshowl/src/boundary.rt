@@ -1,21 +1,18 @@
 // Prediction for C: numbers, bytes, and an output of 384 bytes that a refused call leaves as it was. A slice is a pointer and a length.
 ghost use mathlib.Core.Path.{_≡_};
 ghost use lib.ListN.{length};
-ghost use Rattle.rfc6386.specs.Macroblock.{lent, whole, split};
 ghost use Rattle.rfc6386.specs.Refusal.{codeRefusal};
-ghost use Rattle.threshowl.specs.Boundary.{setOf, codesRefusal, pictureOf, wholeBy, splitBy, Left};
-use crate::output::write_samples;
+ghost use Rattle.outputs.specs.Output.{Left};
+ghost use Rattle.threshowl.specs.Boundary.{setOf, codesRefusal, pictureOf, wholeBy, splitBy};
 use motion_vectors::are_one;
-use prediction::predict_inter_mb_lowered;
-use prediction::predict_split_mv_lowered;
-use quarters::predict_quarters;
+use outputs::quarters_into;
+use outputs::split_into;
+use outputs::whole_into;
 use refusals::code_refusal;
 use refusals::count_refusal;
 use refusals::or_else;
-use refusals::room_refusal;
 use rfc6386::FilterSet;
 use rfc6386::Mv;
-use rfc6386::Prediction;
 use rfc6386::Sizes;
 use vector_bytes::mvs_of_bytes;
 
@@ -34,85 +31,6 @@ pub fn codes_refusal(filter: u8, count: usize) -> u32
     let code = code_refusal(filter);
     let vectors = count_refusal(64, count);
     or_else(code, vectors)
-}
-
-// Ends a call: gives its number, and writes the samples where that is 0. `codes` is the number that its codes get.
-fn finish(p: Prediction, codes: u32, out: &mut [u8]) -> u32
-    ensures { λ r. ⌜ Left p codes (now (out .entry)) r (now (out .exit)) ⌝ }
-{
-    let own = p.number;
-    let n = or_else(own, or_else(codes, room_refusal(out.len())));
-    if n != 0 {
-        return n;
-    }
-    let samples = p.samples;
-    write_samples(out, samples);
-    0
-}
-
-// Whole prediction into a lent output. Every call for C that predicts whole makes this one, and so `predict_inter_mb_lowered` has one caller in
-// the library, and the compiler inlines it.
-pub fn whole_into(
-    y: &[u8],
-    u: &[u8],
-    v: &[u8],
-    sizes: Sizes,
-    mb_col: usize,
-    mb_row: usize,
-    mv: Mv,
-    lower_luma: bool,
-    lower_chroma: bool,
-    set: FilterSet,
-    codes: u32,
-    out: &mut [u8],
-) -> u32
-    ensures { λ r. ⌜ Left (whole set (record { luma = «lower_luma»; chroma = «lower_chroma» }) (lent (now (y .entry)) (now (u .entry)) (now (v .entry)) sizes) «mb_col» «mb_row» mv) codes (now (out .entry)) r (now (out .exit)) ⌝ }
-{
-    let p = predict_inter_mb_lowered(
-        y,
-        u,
-        v,
-        sizes,
-        mb_col,
-        mb_row,
-        mv,
-        lower_luma,
-        lower_chroma,
-        set,
-    );
-    finish(p, codes, out)
-}
-
-// Split prediction likewise.
-pub fn split_into(
-    y: &[u8],
-    u: &[u8],
-    v: &[u8],
-    sizes: Sizes,
-    mb_col: usize,
-    mb_row: usize,
-    mvs: [Mv; 16],
-    lower_luma: bool,
-    lower_chroma: bool,
-    set: FilterSet,
-    codes: u32,
-    out: &mut [u8],
-) -> u32
-    ensures { λ r. ⌜ Left (split set (record { luma = «lower_luma»; chroma = «lower_chroma» }) (lent (now (y .entry)) (now (u .entry)) (now (v .entry)) sizes) «mb_col» «mb_row» mvs) codes (now (out .entry)) r (now (out .exit)) ⌝ }
-{
-    let p = predict_split_mv_lowered(
-        y,
-        u,
-        v,
-        sizes,
-        mb_col,
-        mb_row,
-        mvs,
-        lower_luma,
-        lower_chroma,
-        set,
-    );
-    finish(p, codes, out)
 }
 
 #[no_mangle]
@@ -292,7 +210,8 @@ pub extern "C" fn threshowl_predict_quarters(
         mb_cols,
         mb_rows,
     };
-    let p = predict_quarters(
+    let codes = codes_refusal(filter, vectors.len());
+    quarters_into(
         y,
         u,
         v,
@@ -302,6 +221,7 @@ pub extern "C" fn threshowl_predict_quarters(
         mvs_of_bytes(vectors),
         full_pixel != 0,
         set_of(filter),
-    );
-    finish(p, codes_refusal(filter, vectors.len()), out)
+        codes,
+        out,
+    )
 }

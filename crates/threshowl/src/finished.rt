@@ -11,10 +11,10 @@ ghost use Rattle.threshowl.specs.Boundary.{flagOf, codesRefusal, picture
 ghost use Rattle.threshowl.specs.Finished.{Finishes, pixelsAt, finishedBytes};
 use crate::boundary::codes_refusal;
 use crate::boundary::set_of;
-use crate::boundary::split_into;
-use crate::boundary::whole_into;
 use motion_vectors::chroma_vector;
 use motion_vectors::luma_vector;
+use outputs::split_into;
+use outputs::whole_into;
 use prediction::fraction_left;
 use refusals::code_refusal;
 use refusals::or_else;

@@ -2,6 +2,5 @@
 pub mod boundary;
 pub mod by_version;
 pub mod finished;
-mod output;
 pub mod pictures;
 pub mod recordings;

@@ -9,7 +9,8 @@ use Rattle.rfc6386.specs.Merging.{merge-alike}
 use Rattle.rfc6386.specs.Laws.Vectors.{vector}
 use Rattle.rfc6386.specs.Refusal.{codeRefusal}
 use Rattle.threshowl.specs.Boundary.{setOf, flagOf}
-use Rattle.threshowl.proofs.Laws.{left-as, codes-as}
+use Rattle.outputs.specs.Laws.{left-as}
+use Rattle.threshowl.proofs.Laws.{codes-as}
 use Rattle.threshowl.proofs.boundary.threshowl_predict_merging.Statement.{statement}
 use Rattle.threshowl.proofs.boundary.threshowl_predict_merging.Tie as tie
 

@@ -7,7 +7,7 @@ use Rattle.rfc6386.specs.Macroblock.{lent, split}
 use Rattle.rfc6386.specs.declared.Mv.{Mv}
 use Rattle.rfc6386.specs.declared.FilterSet.{FilterSet}
 use Rattle.threshowl.specs.Boundary.{flagOf}
-use Rattle.threshowl.proofs.Laws.{left-as}
+use Rattle.outputs.specs.Laws.{left-as}
 use Rattle.threshowl.proofs.boundary.threshowl_predict_split.Statement.{statement}
 use Rattle.threshowl.proofs.boundary.threshowl_predict_split.Tie as tie
 

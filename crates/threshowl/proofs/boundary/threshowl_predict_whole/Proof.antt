@@ -8,7 +8,7 @@ use Rattle.rfc6386.specs.Laws.Vectors.{vector}
 use Rattle.rfc6386.specs.declared.Mv.{Mv}
 use Rattle.rfc6386.specs.declared.FilterSet.{FilterSet}
 use Rattle.threshowl.specs.Boundary.{flagOf}
-use Rattle.threshowl.proofs.Laws.{left-as}
+use Rattle.outputs.specs.Laws.{left-as}
 use Rattle.threshowl.proofs.boundary.threshowl_predict_whole.Statement.{statement}
 use Rattle.threshowl.proofs.boundary.threshowl_predict_whole.Tie as tie
 

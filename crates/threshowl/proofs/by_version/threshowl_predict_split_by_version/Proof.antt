@@ -14,7 +14,8 @@ use Rattle.rfc6386.specs.declared.Prediction.{Prediction}
 use Rattle.rfc6386.specs.Refusal.{countRefusal}
 use Rattle.vector_bytes.specs.Bytes.{vectorsOf}
 use Rattle.threshowl.specs.Boundary.{flagOf}
-use Rattle.threshowl.proofs.Laws.{left-as, left-reserved}
+use Rattle.outputs.specs.Laws.{left-as}
+use Rattle.threshowl.proofs.Laws.{left-reserved}
 use Rattle.threshowl.proofs.by_version.threshowl_predict_split_by_version.Statement.{statement}
 use Rattle.threshowl.proofs.by_version.threshowl_predict_split_by_version.Tie as tie
 

@@ -12,7 +12,8 @@ use Rattle.rfc6386.specs.declared.Mv.{Mv}
 use Rattle.rfc6386.specs.declared.FilterSet.{FilterSet}
 use Rattle.rfc6386.specs.declared.Prediction.{Prediction}
 use Rattle.threshowl.specs.Boundary.{flagOf}
-use Rattle.threshowl.proofs.Laws.{left-as, left-reserved}
+use Rattle.outputs.specs.Laws.{left-as}
+use Rattle.threshowl.proofs.Laws.{left-reserved}
 use Rattle.threshowl.proofs.by_version.threshowl_predict_whole_by_version.Statement.{statement}
 use Rattle.threshowl.proofs.by_version.threshowl_predict_whole_by_version.Tie as tie
 

@@ -10,9 +10,10 @@ use Rattle.rfc6386.specs.Refusal.{orElse, roomRefusal}
 use Rattle.rfc6386.specs.Macroblock.{Reference, lent, split}
 use Rattle.residue.specs.Coefficients.{splitRefusal}
 use Rattle.vector_bytes.specs.Bytes.{vectorsOf}
-use Rattle.threshowl.specs.Boundary.{setOf, flagOf, codesRefusal, Left}
-use Rattle.threshowl.proofs.Laws.{left-as}
-use Rattle.threshowl.proofs.Finishing.{split-counted, finishes-refused, finishes-done, none-late, none-own, room-left}
+use Rattle.outputs.specs.Output.{Left}
+use Rattle.threshowl.specs.Boundary.{setOf, flagOf, codesRefusal}
+use Rattle.outputs.specs.Laws.{left-as, split-counted}
+use Rattle.threshowl.proofs.Finishing.{finishes-refused, finishes-done, none-late, none-own, room-left}
 use Rattle.rfc6386.specs.declared.Mv.{Mv}
 use Rattle.rfc6386.specs.declared.FilterSet.{FilterSet}
 use Rattle.rfc6386.specs.declared.Prediction.{Prediction}

@@ -10,9 +10,10 @@ use Rattle.rfc6386.specs.Refusal.{orElse, codeRefusal, roomRefusal}
 use Rattle.rfc6386.specs.Macroblock.{Reference, lent, whole}
 use Rattle.rfc6386.specs.Laws.Vectors.{vector}
 use Rattle.residue.specs.Coefficients.{seeded, wholeRefusal}
-use Rattle.threshowl.specs.Boundary.{setOf, flagOf, Left}
-use Rattle.threshowl.proofs.Laws.{left-as}
-use Rattle.threshowl.proofs.Finishing.{whole-counted, finishes-refused, finishes-done, none-late, none-own, room-left}
+use Rattle.outputs.specs.Output.{Left}
+use Rattle.threshowl.specs.Boundary.{setOf, flagOf}
+use Rattle.outputs.specs.Laws.{left-as, whole-counted}
+use Rattle.threshowl.proofs.Finishing.{finishes-refused, finishes-done, none-late, none-own, room-left}
 use Rattle.rfc6386.specs.declared.Mv.{Mv}
 use Rattle.rfc6386.specs.declared.FilterSet.{FilterSet}
 use Rattle.rfc6386.specs.declared.Prediction.{Prediction}

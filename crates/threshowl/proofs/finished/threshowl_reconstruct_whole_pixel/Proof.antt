@@ -12,9 +12,10 @@ use Rattle.rfc6386.specs.Refusal.{orElse, roomRefusal}
 use Rattle.rfc6386.specs.Macroblock.{Reference, lent, whole, fractionLeft}
 use Rattle.rfc6386.specs.Laws.Vectors.{vector}
 use Rattle.residue.specs.Coefficients.{seeded, wholeRefusal}
-use Rattle.threshowl.specs.Boundary.{flagOf, Left}
-use Rattle.threshowl.proofs.Laws.{left-as, zeros}
-use Rattle.threshowl.proofs.Finishing.{whole-counted, finishes-refused, finishes-done, none-late, none-own, room-left, finishes-pixels}
+use Rattle.outputs.specs.Output.{Left}
+use Rattle.threshowl.specs.Boundary.{flagOf}
+use Rattle.outputs.specs.Laws.{left-as, zeros, whole-counted}
+use Rattle.threshowl.proofs.Finishing.{finishes-refused, finishes-done, none-late, none-own, room-left, finishes-pixels}
 use Rattle.rfc6386.specs.declared.Mv.{Mv}
 use Rattle.rfc6386.specs.declared.FilterSet.the-variants.{Sixtap}
 use Rattle.rfc6386.specs.declared.Prediction.{Prediction}

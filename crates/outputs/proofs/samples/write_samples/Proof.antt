@@ -1,15 +1,15 @@
--- `threshowl::output::write_samples` meets its contract. Three copies, one after the other. Assumes nothing.
+-- `samples::write_samples` meets its contract. Three copies, one after the other. Assumes nothing.
 use mathlib.Core.Path.{_≡_}
 use native.Mathlib.Omega.{arith}
 use lib.ListN.{length}
 use borrow.Author.Needs.{needs}
 use Rattle.rfc6386.specs.declared.ReconstructedMb.{ReconstructedMb}
-use Rattle.threshowl.proofs.Laws.{put-three}
-use Rattle.threshowl.proofs.output.write_samples.Statement.{statement}
-use Rattle.threshowl.proofs.output.write_samples.Tie as tie
-use Rattle.threshowl.proofs.output.write_samples.Reads as reads
-use Rattle.threshowl.proofs.output.write_samples.Lts as lts
-use Rattle.threshowl.proofs.output.put.Reads as put-reads
+use Rattle.outputs.proofs.Laws.{put-three}
+use Rattle.outputs.proofs.samples.write_samples.Statement.{statement}
+use Rattle.outputs.proofs.samples.write_samples.Tie as tie
+use Rattle.outputs.proofs.samples.write_samples.Reads as reads
+use Rattle.outputs.proofs.samples.write_samples.Lts as lts
+use Rattle.outputs.proofs.samples.put.Reads as put-reads
 
 -- the lengths of what is passed
 record Long (s : ReconstructedMb) : Type 0 where

@@ -3,7 +3,7 @@ ghost use mathlib.Core.Path.{_≡_};
 ghost use Prim.Native.Nat.{_+_, _≤_};
 ghost use lib.ListN.{length};
 ghost use lib.Seq.{paste};
-ghost use Rattle.threshowl.specs.Boundary.{flat};
+ghost use Rattle.outputs.specs.Output.{flat};
 use rfc6386::ReconstructedMb;
 
 // All of src, from `to` on.

@@ -1,9 +1,9 @@
--- `threshowl::boundary::finish` meets its contract. Its number is what the two calls of `or_else` give; where that is 0, the output has 384 bytes. Assumes nothing.
+-- `into::finish` meets its contract. Its number is what the two calls of `or_else` give; where that is 0, the output has 384 bytes. Assumes nothing.
 use native.Mathlib.Omega.{arith}
 use borrow.Author.Needs.{needs}
-use Rattle.threshowl.proofs.Laws.{left-refused, has-room, left-done}
-use Rattle.threshowl.proofs.boundary.finish.Statement.{statement}
-use Rattle.threshowl.proofs.boundary.finish.Tie as tie
+use Rattle.outputs.specs.Laws.{left-refused, has-room, left-done}
+use Rattle.outputs.proofs.into.finish.Statement.{statement}
+use Rattle.outputs.proofs.into.finish.Tie as tie
 
 room-refusal-requires : tie.Need-room-refusal-requires
 room-refusal-requires c κs = search needs

@@ -1,12 +1,12 @@
--- `threshowl::output::put` meets its contract. The loop has copied the first i bytes of src. Assumes nothing.
+-- `samples::put` meets its contract. The loop has copied the first i bytes of src. Assumes nothing.
 use mathlib.Core.Path.{ap, _∙_, _≡_, refl}
 use Prim.Native.Nat.{ℕ, _≤_, _-_}
 use native.Mathlib.Omega.{arith}
 use lib.ListN.{length-set, length}
 use lib.Seq.{paste, paste-zero}
-use Rattle.threshowl.proofs.Laws.{put-more}
-use Rattle.threshowl.proofs.output.put.Statement.{statement}
-use Rattle.threshowl.proofs.output.put.Tie as tie
+use Rattle.outputs.proofs.Laws.{put-more}
+use Rattle.outputs.proofs.samples.put.Statement.{statement}
+use Rattle.outputs.proofs.samples.put.Tie as tie
 
 abbrev Inv-loop : tie.InvT-loop
 Inv-loop out₀ to src i₀ out i = (i ≤ length src) × (length out ≡ length out₀) × (out ≡ paste out₀ to src i)

@@ -1,9 +1,9 @@
--- `threshowl::boundary::split_into` meets its contract. What `finish` leaves, at what the prediction is. Assumes nothing.
+-- `into::split_into` meets its contract. What `finish` leaves, at what the prediction is. Assumes nothing.
 use mathlib.Core.Path.{refl}
 use borrow.Author.Needs.{needs}
-use Rattle.threshowl.proofs.Laws.{left-as}
-use Rattle.threshowl.proofs.boundary.split_into.Statement.{statement}
-use Rattle.threshowl.proofs.boundary.split_into.Tie as tie
+use Rattle.outputs.specs.Laws.{left-as}
+use Rattle.outputs.proofs.into.split_into.Statement.{statement}
+use Rattle.outputs.proofs.into.split_into.Tie as tie
 
 returns : tie.Need-returns
 returns c = left-as (c .before .before .before .before .predict-split-mv-lowered .ensures) refl (c .before .before .finish .ensures)

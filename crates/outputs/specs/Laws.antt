@@ -1,0 +1,79 @@
+-- How a call with a lent output ends, and how many samples a prediction has. Assumes nothing.
+use mathlib.Core.Path.{_≡_, refl, sym, _∙_, subst}
+use mathlib.Core.Bool.{Bool, true, false, cond}
+use mathlib.Core.List.{List}
+use Prim.Native.Nat.{ℕ, zero, suc, _*_}
+use native.Mathlib.Omega.{arith}
+use lib.Dec.{eqb}
+use lib.ListN.{length}
+use borrow.Author.Tests.{eqb-true}
+use Rattle.rfc6386.specs.Vector.{Lowering, lumaVector, chromaVector}
+use Rattle.rfc6386.specs.Picture.{image, blockBy}
+use Rattle.rfc6386.specs.Refusal.{orElse, roomRefusal}
+use Rattle.rfc6386.specs.Macroblock.{Reference, planeY, planeU, planeV, refusal, wholeSamples, splitSamples, noSamples, answered, whole, split}
+use Rattle.rfc6386.specs.Promises.{one-result}
+use Rattle.rfc6386.specs.Laws.Raster.{length-raster}
+use Rattle.rfc6386.specs.Laws.Refusals.{done, refused}
+use Rattle.rfc6386.specs.Laws.Blocks.{length-block}
+use Rattle.outputs.specs.Output.{flat, callNumber, Left}
+use Rattle.rfc6386.specs.declared.Mv.{Mv}
+use Rattle.rfc6386.specs.declared.FilterSet.{FilterSet}
+use Rattle.rfc6386.specs.declared.ReconstructedMb.{ReconstructedMb}
+use Rattle.rfc6386.specs.declared.Prediction.{Prediction}
+
+-- ---- how a call ends
+pub zeros : (n m : ℕ) → orElse n m ≡ 0 → m ≡ 0
+zeros zero m e = e
+zeros (suc n) m e = absurd (omega arith)
+
+no-7 : (n : ℕ) → roomRefusal n ≡ 0 → n ≡ 384
+no-7 n e = at (eqb n 384) refl e
+  where
+    at : (b : Bool) → eqb n 384 ≡ b → _≡_ {A = ℕ} (cond b 0 7) 0 → n ≡ 384
+    at true t e = eqb-true n 384 t
+    at false t e = absurd (omega arith)
+
+module _ (p : Prediction) (codes : ℕ) (out : List ℕ) (n : ℕ) (e : n ≡ callNumber p codes out) where
+  pub left-refused : (n ≡ 0 → ⊥) → Left p codes out n out
+  left-refused h = record { number-is = e; bytes-are = sym (refused (flat (p .samples)) out (λ z. h (e ∙ z))) }
+
+  pub has-room : n ≡ 0 → length out ≡ 384
+  has-room z = no-7 (length out) (zeros codes _ (zeros (p .number) _ (sym e ∙ z)))
+
+  pub left-done : (out′ : List ℕ) → n ≡ 0 → out′ ≡ flat (p .samples) → Left p codes out 0 out′
+  left-done out′ z w = record { number-is = sym z ∙ e; bytes-are = w ∙ sym (done (flat (p .samples)) out (sym e ∙ z)) }
+
+pub left-as : {p q : Prediction} {n m : ℕ} {out out′ : List ℕ} {r : ℕ} → p ≡ q → n ≡ m → Left p n out r out′ → Left q m out r out′
+left-as {out} {out′} {r} e f h = subst (λ (x : Prediction × ℕ). Left (x .0) (x .1) out r out′) (λ i. (e i, f i)) h
+
+-- ---- THEOREM. No two outcomes meet the contract of a C function: its number, and the bytes that it leaves.
+pub one-outcome : {p : Prediction} {codes : ℕ} {out : List ℕ} {r s : ℕ} {a b : List ℕ} → Left p codes out r a → Left p codes out s b → (r ≡ s) × (a ≡ b)
+one-outcome h k = (one-result (h .number-is) (k .number-is), one-result (h .bytes-are) (k .bytes-are))
+
+-- ---- how many samples there are
+pub record Counted (s : ReconstructedMb) : Type 0 where
+  pub y : length (s .y) ≡ 256
+  pub u : length (s .u) ≡ 64
+  pub v : length (s .v) ≡ 64
+
+-- in accepted predictions
+counted : (n : ℕ) (s : ReconstructedMb) → n ≡ 0 → Counted s → Counted (answered n s .samples)
+unfolding answered
+counted n s e h = subst Counted (sym (done s noSamples e)) h
+
+module _ (set : FilterSet) (low : Lowering) (ref : Reference) (col row : ℕ) where
+  pub whole-counted : (v : Mv) → whole set low ref col row v .number ≡ 0 → Counted (whole set low ref col row v .samples)
+  unfolding whole answered wholeSamples
+  whole-counted v e =
+      counted (refusal ref col row) (wholeSamples set low ref col row v) e
+      (record {
+        y = length-block 16 set (image (planeY ref)) (col * 16) (row * 16) (lumaVector low v);
+        u = length-block 8 set (image (planeU ref)) (col * 8) (row * 8) (chromaVector low v);
+        v = length-block 8 set (image (planeV ref)) (col * 8) (row * 8) (chromaVector low v);
+      })
+
+  pub split-counted : (vs : List Mv) → split set low ref col row vs .number ≡ 0 → Counted (split set low ref col row vs .samples)
+  unfolding split answered splitSamples blockBy
+  split-counted vs e =
+      counted (refusal ref col row) (splitSamples set low ref col row vs) e
+      (record { y = length-raster 16 16 _; u = length-raster 8 8 _; v = length-raster 8 8 _ })
