@@ -25,6 +25,8 @@
 #                           the original
 #   make rfc-transforms RFC=FILE
 #                           run the inverse transforms that it prints beside ours
+#   make rfc-factors RFC=FILE
+#                           compare the tables and factors that it prints with ours
 #   make bench RUST=SRC     time both in one run on this processor; bench/count
 #                           counts x86-64 instructions
 #   make install PREFIX=DIR header, library, pkg-config file and programs
@@ -39,7 +41,7 @@
 # RUSTC=..., see tests/x86-64.sh; the benchmark times a library made for that
 # processor, see bench/native-archive.
 
-VERSION = 0.5.0
+VERSION = 0.6.0
 PREFIX = /usr/local
 DESTDIR =
 ARCHIVE = target/staticlib/libthreshowl.a
@@ -69,7 +71,7 @@ EXPECTED = examples/lamp_panel.expected
 FREESTANDING = tests/freestanding/host.c
 
 .PHONY: demo demo-check check mirror versions quarters oracle bench install install-check clean tools rust-named FORCE
-.PHONY: bindings-check libvpx-check programs tools-check freestanding ivf-evidence ivf-bench y4m-evidence y4m-bench rfc-version3 rfc-transforms rfc-named
+.PHONY: bindings-check libvpx-check programs tools-check freestanding ivf-evidence ivf-bench y4m-evidence y4m-bench rfc-version3 rfc-transforms rfc-factors rfc-named
 
 demo: target/demo/lamp_panel
 	$(EMULATOR) target/demo/lamp_panel target/demo
@@ -140,6 +142,9 @@ bindings-check: $(ARCHIVE)
 
 rfc-transforms: rfc-named $(ARCHIVE) | tools
 	CC="$(CC)" AS_C="$(AS_C)" EMULATOR="$(EMULATOR)" SEED="$(SEED)" tests/rfc/run-transforms "$(RFC)" "$(ARCHIVE)"
+
+rfc-factors: rfc-named $(ARCHIVE) $(SHIMS) | tools
+	CC="$(CC)" AS_C="$(AS_C)" EMULATOR="$(EMULATOR)" SEED="$(SEED)" tests/rfc/run-factors "$(RFC)" "$(ARCHIVE)" $(SHIMS)
 
 bench: rust-named $(BENCHED)
 	bench/run "$(RUST)" $(BENCHED)

@@ -1,8 +1,9 @@
 // Finished macroblocks, through the C boundary: all blocks full, first
-// coefficients alone, and skipped, each beside its own prediction.
+// coefficients alone, and skipped; and all blocks full from levels, which the
+// original dequantises first.
 
 use crate::{turns, Case, PLACES};
-use sides::finished::{original, product, Coefficients, Finish, Residue};
+use sides::finished::{original, product, Coefficients, Finish, Quantiser, Residue};
 use sides::pictures::Picture;
 use sides::random::Random;
 use sides::{in_order, Call, Vectors, SAMPLES};
@@ -13,19 +14,22 @@ enum Kind {
     Full,
     FirstsAlone,
     Skipped,
+    Levels,
 }
 
 impl Kind {
-    const ALL: [(Kind, &'static str); 3] = [
+    const ALL: [(Kind, &'static str); 4] = [
         (Kind::Full, "full"),
         (Kind::FirstsAlone, "firsts alone"),
         (Kind::Skipped, "skipped"),
+        (Kind::Levels, "levels"),
     ];
 
     /// Numbers as streams have them, none of them 0 where a block is full.
     fn coefficients(self, random: &mut Random) -> Coefficients {
         std::array::from_fn(|i| {
-            let drawn = random.within(1, 60) * (2 * random.below(2) as i64 - 1);
+            let most = if self == Kind::Levels { 3 } else { 60 };
+            let drawn = random.within(1, most) * (2 * random.below(2) as i64 - 1);
             if self == Kind::FirstsAlone && i % 16 > 0 {
                 0
             } else {
@@ -39,6 +43,7 @@ struct Work<'a> {
     call: Call<'a>,
     coefficients: Coefficients,
     skip: u8,
+    quantiser: Option<Quantiser>,
 }
 
 impl Work<'_> {
@@ -47,6 +52,7 @@ impl Work<'_> {
             coefficients: &self.coefficients,
             count: form.count(),
             skip: self.skip,
+            quantiser: self.quantiser,
         }
     }
 }
@@ -57,6 +63,10 @@ fn works<'a>(picture: &'a Picture, vectors: Vectors, kind: Kind) -> [Work<'a>; P
         call: Call::on(picture, (2 + i % 8, 2 + i / 2), vectors, 0, 0),
         coefficients: kind.coefficients(&mut random),
         skip: u8::from(kind == Kind::Skipped),
+        quantiser: (kind == Kind::Levels).then_some(Quantiser {
+            base: 20,
+            deltas: [0, -2, 1, 0, 3],
+        }),
     })
 }
 

@@ -7,8 +7,9 @@
  * where all are equal and no picture could tell) and quarters (sixteen vectors,
  * of which equal ones are taken together in luma, by squares).  Two more do the
  * first two by the version number of a frame's tag, and three add the residue
- * to a whole, a whole-pixel or a split prediction.  Link libthreshowl.a.  It
- * needs two symbols of the host, memcpy and memset as C has them, and no others.
+ * to a whole, a whole-pixel or a split prediction; three more add it from
+ * quantised levels.  Link libthreshowl.a.  It needs two symbols of the host,
+ * memcpy and memset as C has them, and no others.
  *
  *
  * The reference picture
@@ -122,16 +123,17 @@ enum {
     THRESHOWL_BAD_OUT = 7,
 
     /* A vector leaves a fraction of a pixel, in luma or in chroma.
-       threshowl_reconstruct_whole_pixel alone gives this number. */
+       threshowl_reconstruct_whole_pixel alone gives this number, and the one
+       like it from levels. */
     THRESHOWL_FRACTION_LEFT = 8,
 
     /* version is above 3, whatever else is at fault.  The functions by version
        alone give this number. */
     THRESHOWL_RESERVED_VERSION = 10,
 
-    /* coefficients_len is not what it should be; or, with skip off, a
-       coefficient lies beyond its range.  The functions that add the residue
-       alone give this number. */
+    /* coefficients_len, or levels_len, is not what it should be; or, with skip
+       off, a coefficient lies beyond its range.  The functions that add the
+       residue alone give this number. */
     THRESHOWL_BAD_COEFFICIENTS = 11
 };
 
@@ -297,6 +299,91 @@ uint32_t threshowl_reconstruct_split(
     const uint8_t *vectors, size_t vectors_len,
     uint8_t filter, uint8_t full_pixel, uint8_t skip,
     const int16_t *coefficients, size_t coefficients_len,
+    uint8_t *out, size_t out_len);
+
+/*
+ * Decoded macroblocks from quantised levels
+ *
+ * The same three, for a host that has the levels that a stream sends: each is
+ * multiplied by its factor here, and is then a coefficient of the functions
+ * above.  They take for the coefficients:
+ *
+ * levels         in the order of the coefficients, raster order in each block, 400
+ *                of them or 384, each any number of sixteen bits.
+ * y_ac_qi        the base index, and after it five deltas (RFC 6386, section
+ *                9.6); each is any number of 32 bits.
+ *
+ * A step stands in one of two tables (section 14.1), at the index that base and
+ * delta make together, or where that lies outside 0..127 at the nearer end.  The
+ * first number of a block has a factor of its own, DC, the other fifteen have AC:
+ *
+ *   Y     DC   the DC step of y_dc_delta      4 to 157
+ *         AC   the AC step of the base        4 to 284
+ *   Y2    DC   twice that of y2_dc_delta      8 to 314
+ *         AC   that of y2_ac_delta times 155, divided by 100 and rounded down,
+ *              at least 8                     8 to 440
+ *   U, V  DC   that of uv_dc_delta, at most 132
+ *                                             4 to 132
+ *         AC   that of uv_ac_delta            4 to 284
+ *
+ * Level times factor is exact.  It is refused with 11 where such a coefficient
+ * is: beyond its range, where it is looked at.  So is another count than 400 or
+ * 384, with skip on as well.
+ */
+
+/*
+ * One vector.  Gives 0, 1, 2, 3, 4, 5, 7 or 11.
+ */
+uint32_t threshowl_reconstruct_whole_from_levels(
+    const uint8_t *y, size_t y_len,
+    const uint8_t *u, size_t u_len,
+    const uint8_t *v, size_t v_len,
+    size_t y_stride, size_t u_stride, size_t v_stride,
+    size_t mb_cols, size_t mb_rows,
+    size_t mb_col, size_t mb_row,
+    int16_t mv_row, int16_t mv_col,
+    uint8_t filter, uint8_t full_pixel, uint8_t skip,
+    const int16_t *levels, size_t levels_len,
+    int32_t y_ac_qi, int32_t y_dc_delta,
+    int32_t y2_dc_delta, int32_t y2_ac_delta,
+    int32_t uv_dc_delta, int32_t uv_ac_delta,
+    uint8_t *out, size_t out_len);
+
+/*
+ * One vector that leaves no fraction of a pixel in any plane.  Gives 0, 1, 2, 3, 4,
+ * 7, 8 or 11.
+ */
+uint32_t threshowl_reconstruct_whole_pixel_from_levels(
+    const uint8_t *y, size_t y_len,
+    const uint8_t *u, size_t u_len,
+    const uint8_t *v, size_t v_len,
+    size_t y_stride, size_t u_stride, size_t v_stride,
+    size_t mb_cols, size_t mb_rows,
+    size_t mb_col, size_t mb_row,
+    int16_t mv_row, int16_t mv_col,
+    uint8_t full_pixel, uint8_t skip,
+    const int16_t *levels, size_t levels_len,
+    int32_t y_ac_qi, int32_t y_dc_delta,
+    int32_t y2_dc_delta, int32_t y2_ac_delta,
+    int32_t uv_dc_delta, int32_t uv_ac_delta,
+    uint8_t *out, size_t out_len);
+
+/*
+ * A vector for each 4x4 luma block.  Gives 0 to 7, or 11.
+ */
+uint32_t threshowl_reconstruct_split_from_levels(
+    const uint8_t *y, size_t y_len,
+    const uint8_t *u, size_t u_len,
+    const uint8_t *v, size_t v_len,
+    size_t y_stride, size_t u_stride, size_t v_stride,
+    size_t mb_cols, size_t mb_rows,
+    size_t mb_col, size_t mb_row,
+    const uint8_t *vectors, size_t vectors_len,
+    uint8_t filter, uint8_t full_pixel, uint8_t skip,
+    const int16_t *levels, size_t levels_len,
+    int32_t y_ac_qi, int32_t y_dc_delta,
+    int32_t y2_dc_delta, int32_t y2_ac_delta,
+    int32_t uv_dc_delta, int32_t uv_ac_delta,
     uint8_t *out, size_t out_len);
 
 /*

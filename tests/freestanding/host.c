@@ -176,6 +176,43 @@ static int reconstruct_whole_pixel(void)
            && same(out, due, 256);
 }
 
+/* ---- And from levels: at base index 0 the first of a Y2 block is multiplied by 8, that of another by 4 ---- */
+
+static int16_t levels[THRESHOWL_COEFFICIENTS];
+
+#define INDICES 0, 0, 0, 0, 0, 0
+
+static int reconstruct_whole_from_levels(void)
+{
+    size_t i;
+    levels[0] = 2 * 8;
+    for (i = 0; i < 8; i++) {
+        levels[272 + 16 * i] = -3 * 2;
+    }
+    return predicted(threshowl_reconstruct_whole_from_levels(PICTURE, 0, COL, THRESHOWL_BILINEAR, 0, 0, levels,
+                                                             THRESHOWL_COEFFICIENTS, INDICES, out, sizeof out));
+}
+
+static int reconstruct_whole_pixel_from_levels(void)
+{
+    uint32_t number = threshowl_reconstruct_whole_pixel_from_levels(PICTURE, 0, COL, 0, 0, levels,
+                                                                    THRESHOWL_COEFFICIENTS, INDICES, out, sizeof out);
+    return number == THRESHOWL_FRACTION_LEFT
+           && threshowl_reconstruct_whole_pixel_from_levels(PICTURE, 0, COL, 1, 0, levels, THRESHOWL_COEFFICIENTS,
+                                                            INDICES, out, sizeof out) == THRESHOWL_DONE
+           && same(out, due, 256);
+}
+
+static int reconstruct_split_from_levels(void)
+{
+    size_t i;
+    for (i = 0; i < 16; i++) {
+        levels[16 + 16 * i] = 2 * 2;
+    }
+    return predicted(threshowl_reconstruct_split_from_levels(PICTURE, VECTORS, THRESHOWL_BILINEAR, 0, 0, levels + 16,
+                                                             THRESHOWL_SPLIT_COEFFICIENTS, INDICES, out, sizeof out));
+}
+
 /* ---- Recordings: a complete frame, then five bytes of another ---- */
 
 static int mend(void)
@@ -223,7 +260,9 @@ static int frame(void)
 /* ---- Where the program begins and ends (Linux, x86-64) ---- */
 
 static int (*const calls[])(void) = {whole, split, merging, quarters, whole_by_version, split_by_version,
-                                    reconstruct_whole, reconstruct_split, reconstruct_whole_pixel, mend, header, frame};
+                                    reconstruct_whole, reconstruct_split, reconstruct_whole_pixel,
+                                    reconstruct_whole_from_levels, reconstruct_whole_pixel_from_levels,
+                                    reconstruct_split_from_levels, mend, header, frame};
 
 int run(void);
 

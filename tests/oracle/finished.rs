@@ -1,11 +1,14 @@
 // Finished macroblocks: samples compared with the original's over coefficients
-// of all kinds, and the numbers of calls that are refused, 11 after all others.
+// of all kinds, and over levels that stand for them; and the numbers of calls
+// that are refused, 11 after all others.
 
 use crate::jobs::Job;
 use crate::refusals::planes_due;
 use crate::sweeps::{layouts, near_vector, words};
 use crate::tally::{untouched, written, Tally};
-use sides::finished::{original, product, whole_pixels, Coefficients, Finish, Residue, BLOCKS, Y2};
+use sides::finished::{
+    original, product, whole_pixels, Coefficients, Finish, Quantiser, Residue, BLOCKS, Y2,
+};
 use sides::pictures::{Picture, Shows};
 use sides::random::Random;
 use sides::{at_one_stride, in_order, Call, Form, Vectors, SAMPLES};
@@ -83,6 +86,43 @@ const KINDS: [(&str, Draw); 6] = [
     ("great Y2", great_y2),
 ];
 
+// ---- Levels ----
+
+/// What the calls are handed: coefficients, or levels.
+#[derive(Clone, Copy, PartialEq)]
+enum Given {
+    Coefficients,
+    Levels,
+}
+
+impl Given {
+    const ALL: [Given; 2] = [Given::Coefficients, Given::Levels];
+
+    fn words(self) -> &'static str {
+        match self {
+            Given::Coefficients => "finished",
+            Given::Levels => "from levels",
+        }
+    }
+
+    /// Indices as streams have them, and beyond.
+    fn quantiser(self, random: &mut Random) -> Option<Quantiser> {
+        let most = random.pick(&[15, 15, 200]);
+        (self == Given::Levels).then(|| Quantiser {
+            base: random.within(-most / 20, 127 + most / 20) as i32,
+            deltas: std::array::from_fn(|_| random.within(-most, most) as i32),
+        })
+    }
+}
+
+/// Coefficients, or the levels whose products come nearest to them from below.
+fn given(coefficients: Coefficients, quantiser: Option<Quantiser>) -> Coefficients {
+    match quantiser {
+        None => coefficients,
+        Some(q) => std::array::from_fn(|i| coefficients[i] / q.factor(i)),
+    }
+}
+
 // ---- Calls ----
 
 fn vectors(form: Finish, random: &mut Random) -> Vectors {
@@ -92,8 +132,8 @@ fn vectors(form: Finish, random: &mut Random) -> Vectors {
     }
 }
 
-fn tally_of(form: Finish, title: &str) -> Tally {
-    Tally::new(format!("finished, {title}: {}", form.name()))
+fn tally_of(what: Given, form: Finish, title: &str) -> Tally {
+    Tally::new(format!("{}, {title}: {}", what.words(), form.name()))
 }
 
 fn compare(form: Finish, call: &Call, residue: &Residue, tally: &mut Tally) {
@@ -112,10 +152,11 @@ fn compare(form: Finish, call: &Call, residue: &Residue, tally: &mut Tally) {
 fn told(form: Finish, call: &Call, residue: &Residue) -> String {
     let shown = &residue.coefficients[..Y2 + BLOCKS];
     format!(
-        "{} finished, skip {}, {} of the coefficients {shown:?}; {}",
+        "{} finished, skip {}, {} of the coefficients {shown:?}, {:?}; {}",
         form.name(),
         residue.skip,
         residue.count,
+        residue.quantiser,
         words(Form::Whole, call)
     )
 }
@@ -123,8 +164,13 @@ fn told(form: Finish, call: &Call, residue: &Residue) -> String {
 const PICTURES: usize = 500;
 const CALLS: usize = 30;
 
-fn coefficients_of(form: Finish, (title, draw): (&str, Draw), random: &mut Random) -> Tally {
-    let mut tally = tally_of(form, title);
+fn coefficients_of(
+    what: Given,
+    form: Finish,
+    (title, draw): (&str, Draw),
+    random: &mut Random,
+) -> Tally {
+    let mut tally = tally_of(what, form, title);
     for turn in 0..PICTURES {
         let geometry = layouts(1 + turn % 3, 1 + turn / 3 % 3)[turn % 4];
         let at = (
@@ -133,13 +179,15 @@ fn coefficients_of(form: Finish, (title, draw): (&str, Draw), random: &mut Rando
         );
         let picture = Picture::new(Shows::Noise, geometry, at, random);
         for _ in 0..CALLS {
-            let coefficients = draw(random);
+            let quantiser = what.quantiser(random);
+            let coefficients = given(draw(random), quantiser);
             let (filter, flag) = (random.below(2) as u8, random.below(2) as u8);
             let call = Call::on(&picture, at, vectors(form, random), filter, flag);
             let residue = Residue {
                 coefficients: &coefficients,
                 count: form.count(),
                 skip: 0,
+                quantiser,
             };
             compare(form, &call, &residue, &mut tally);
         }
@@ -148,14 +196,15 @@ fn coefficients_of(form: Finish, (title, draw): (&str, Draw), random: &mut Rando
 }
 
 /// Every value of the skip flag, with coefficients of any size where it is on.
-fn every_skip(form: Finish, random: &mut Random) -> Tally {
-    let mut tally = tally_of(form, "every skip value");
+fn every_skip(what: Given, form: Finish, random: &mut Random) -> Tally {
+    let mut tally = tally_of(what, form, "every skip value");
     let geometry = layouts(2, 2)[1];
     let picture = Picture::new(Shows::Noise, geometry, (0, 0), random);
     for skip in 0..=255 {
         for _ in 0..20 {
+            let quantiser = what.quantiser(random);
             let coefficients = if skip == 0 {
-                all_values(random)
+                given(all_values(random), quantiser)
             } else {
                 numbers(|_| random.next() as i64)
             };
@@ -165,6 +214,7 @@ fn every_skip(form: Finish, random: &mut Random) -> Tally {
                 coefficients: &coefficients,
                 count: form.count(),
                 skip,
+                quantiser,
             };
             compare(form, &call, &residue, &mut tally);
         }
@@ -172,32 +222,29 @@ fn every_skip(form: Finish, random: &mut Random) -> Tally {
     tally
 }
 
-/// One coefficient at its limit or one beyond, each place in turn.
-fn every_limit(form: Finish, random: &mut Random) -> Tally {
-    let mut tally = tally_of(form, "each coefficient at and beyond its limit");
+/// One coefficient at its limit or one beyond, each place in turn; of a level the
+/// limit is that of its product, divided by its factor.
+fn every_limit(what: Given, form: Finish, random: &mut Random) -> Tally {
+    let mut tally = tally_of(what, form, "each at and beyond its limit");
     let geometry = layouts(2, 1)[0];
     let picture = Picture::new(Shows::Noise, geometry, (0, 0), random);
     let first = Y2 + BLOCKS - form.count();
     for i in first..Y2 + BLOCKS {
-        for value in [
-            limit(i),
-            limit(i) + 1,
-            -limit(i),
-            -limit(i) - 1,
-            32767,
-            -32768,
-        ] {
-            let mut coefficients = small(random);
+        let quantiser = what.quantiser(random);
+        let most = quantiser.map_or(limit(i), |q| limit(i) / i64::from(q.factor(i)));
+        for value in [most, most + 1, -most, -most - 1, 32767, -32768] {
+            let mut coefficients = given(small(random), quantiser);
             coefficients[i] = value as i16;
             let call = Call::on(&picture, (random.below(2), 0), vectors(form, random), 0, 1);
             let residue = Residue {
                 coefficients: &coefficients,
                 count: form.count(),
                 skip: 0,
+                quantiser,
             };
             // What Y2 replaces is not looked at.
             let replaced = first == 0 && (Y2..272).contains(&i) && i % 16 == 0;
-            if value.abs() <= limit(i) || replaced {
+            if value.abs() <= most || replaced {
                 compare(form, &call, &residue, &mut tally);
             } else {
                 let outcome = untouched(11, |out| unsafe { product(form, &call, &residue, out) });
@@ -209,8 +256,8 @@ fn every_limit(form: Finish, random: &mut Random) -> Tally {
 }
 
 /// Faults of all kinds at once, drawn at random: the lowest number is due.
-fn faults(form: Finish, random: &mut Random) -> Tally {
-    let mut tally = tally_of(form, "faults at random");
+fn faults(what: Given, form: Finish, random: &mut Random) -> Tally {
+    let mut tally = tally_of(what, form, "faults at random");
     let geometry = layouts(2, 2)[1];
     let picture = Picture::new(Shows::Noise, geometry, (0, 0), random);
     for _ in 0..40_000 {
@@ -223,7 +270,8 @@ fn faults(form: Finish, random: &mut Random) -> Tally {
             0,
             random.below(2) as u8,
         );
-        let mut coefficients = small(random);
+        let quantiser = what.quantiser(random);
+        let mut coefficients = given(small(random), quantiser);
         let mut residue_count = form.count();
         let skip = if one_in(3, random) {
             random.next() as u8
@@ -265,6 +313,7 @@ fn faults(form: Finish, random: &mut Random) -> Tally {
             coefficients: &coefficients,
             count: residue_count,
             skip,
+            quantiser,
         };
         let due = number_due(form, &call, &residue, beyond);
         if due == 0 {
@@ -290,17 +339,48 @@ fn number_due(form: Finish, call: &Call, residue: &Residue, beyond: bool) -> u32
     }
 }
 
+/// Every base index, and each delta from -15 to 15.
+fn every_index(form: Finish, random: &mut Random) -> Tally {
+    let mut tally = tally_of(Given::Levels, form, "every index and delta");
+    let geometry = layouts(2, 1)[0];
+    let picture = Picture::new(Shows::Noise, geometry, (0, 0), random);
+    for base in 0..128 {
+        for which in 0..5 {
+            for delta in -15..=15 {
+                let mut deltas = [0; 5];
+                deltas[which] = delta;
+                let quantiser = Some(Quantiser { base, deltas });
+                let coefficients = given(sparse(random), quantiser);
+                let call = Call::on(&picture, (random.below(2), 0), vectors(form, random), 0, 0);
+                let residue = Residue {
+                    coefficients: &coefficients,
+                    count: form.count(),
+                    skip: 0,
+                    quantiser,
+                };
+                compare(form, &call, &residue, &mut tally);
+            }
+        }
+    }
+    tally
+}
+
 pub fn jobs() -> Vec<Job> {
     let mut list: Vec<Job> = Vec::new();
     for form in Finish::ALL {
-        for kind in KINDS {
+        for what in Given::ALL {
+            for kind in KINDS {
+                list.push(Box::new(move |random| {
+                    vec![coefficients_of(what, form, kind, random)]
+                }));
+            }
+            list.push(Box::new(move |random| vec![every_skip(what, form, random)]));
             list.push(Box::new(move |random| {
-                vec![coefficients_of(form, kind, random)]
+                vec![every_limit(what, form, random)]
             }));
+            list.push(Box::new(move |random| vec![faults(what, form, random)]));
         }
-        list.push(Box::new(move |random| vec![every_skip(form, random)]));
-        list.push(Box::new(move |random| vec![every_limit(form, random)]));
-        list.push(Box::new(move |random| vec![faults(form, random)]));
+        list.push(Box::new(move |random| vec![every_index(form, random)]));
     }
     list
 }

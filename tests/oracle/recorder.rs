@@ -1,7 +1,8 @@
-// Writes the file that crates/rust_answers replays: calls of the original, with
-// their arguments and answers, drawn from fixed seeds.
+// Writes the files that crates/rust_answers and crates/finished_answers replay: calls
+// of the original, with their arguments and answers, drawn from fixed seeds. That of
+// finished macroblocks is described in finished_tape.rs.
 //
-// The file is a row of records. Each begins with a byte for its kind, and a kind
+// The other is a row of records. Each begins with a byte for its kind, and a kind
 // has one length, but for a plane, whose bytes follow its sizes. A number of two
 // bytes or more has its low byte first; a vector is its row, then its column, two
 // bytes each. "Answer" stands for what the original gave.
@@ -35,23 +36,18 @@
 //   24  predict_inter_mb: macroblock column, row, flag, filter, a version that asks
 //       for these two if there is one, vector, answer (384)
 //   25  predict_split_mv: the same with 16 vectors
-//   29  reconstruct_inter_mb_whole_pixel: macroblock column, row, flag, skip, vector,
-//       400 coefficients (two bytes each), 0 or 8, answer (384, zeros with 8)
-//   30  reconstruct_inter_mb: macroblock column, row, flag, skip, filter, vector, 400
-//       coefficients, answer (384)
-//   31  reconstruct_split_mv_mb: the same with 16 vectors; the first 16 coefficients,
-//       which stand for Y2, have no part in the answer
 //    0  end: count of records before it (4), check sum of all bytes before (4)
 //
-// 15 to 22 are on plane 0, and 23 to 31 on all three. The check sum starts at 0
+// 15 to 22 are on plane 0, and 23 to 25 on all three. The check sum starts at 0
 // and becomes (sum * 31 + byte) mod 4294967291, a prime, so that no change of one
 // byte leaves it as it was.
+
+mod finished_tape;
 
 use original::inverse_transform::clamp255;
 use original::motion_comp::{
     chroma_idx_for_luma_subblock, filter_set_for_version, whole_pixel_fraction_is_zero, FilterSet,
 };
-use sides::finished::{self, whole_pixels, Coefficients, Finish, Residue, BLOCKS, Y2};
 use sides::one_plane::{self, Place};
 use sides::pictures::{Geometry, Picture, Shows};
 use sides::random::Random;
@@ -467,87 +463,10 @@ fn whole_pixel(tape: &mut Tape, c: &Call) {
     tape.add(23, &[&head, &c.vectors.bytes[..4], &[number], &answer]);
 }
 
-// ---- Finished macroblocks ----
-
-/// Coefficients of the domain: any, small, few, the first of each block alone,
-/// and the greatest and least.
-fn coefficients(turn: usize, random: &mut Random) -> Coefficients {
-    std::array::from_fn(|i| {
-        let limit = if i < Y2 { 16383 } else { 4095 };
-        let any = random.within(-limit, limit);
-        let drawn = match turn % 5 {
-            0 => any,
-            1 => any >> 6,
-            2 if random.below(6) > 0 => 0,
-            2 => any,
-            3 if i % 16 > 0 => 0,
-            3 => any >> random.below(8),
-            _ => limit * (random.below(3) as i64 - 1),
-        };
-        drawn as i16
-    })
-}
-
-fn finish(tape: &mut Tape, kind: u8, form: Finish, call: &Call, residue: &Residue) {
-    let answer = at_one_stride(call, |even| finished::original(form, even, residue));
-    let numbers = residue.coefficients[..Y2 + BLOCKS].iter();
-    let numbers: Vec<u8> = numbers.flat_map(|n| n.to_le_bytes()).collect();
-    let head = [
-        call.mb_col as u8,
-        call.mb_row as u8,
-        call.full_pixel,
-        residue.skip,
-        call.filter,
-    ];
-    let samples = answer.map_or([0; SAMPLES], |mb| in_order(&mb));
-    let vectors = &call.vectors.bytes;
-    match form {
-        Finish::WholePixel => {
-            let number = [if answer.is_some() { 0 } else { 8 }];
-            tape.add(
-                kind,
-                &[&head[..4], &vectors[..4], &numbers, &number, &samples],
-            );
-        }
-        Finish::Whole => tape.add(kind, &[&head, &vectors[..4], &numbers, &samples]),
-        Finish::Split => tape.add(kind, &[&head, &vectors[..64], &numbers, &samples]),
-    }
-}
-
-fn finished_macroblocks(tape: &mut Tape, random: &mut Random) {
-    let geometry = Geometry::tight(3, 2).with_each_stride_above_width(2, 1, 6);
-    let picture = Picture::new(Shows::Noise, geometry, (0, 0), random);
-    let g = picture.geometry;
-    tape.plane(0, 48, 32, g.y_stride, &picture.y);
-    tape.plane(1, 24, 16, g.u_stride, &picture.u);
-    tape.plane(2, 24, 16, g.v_stride, &picture.v);
-    for turn in 0..18 {
-        let drawn = coefficients(turn, random);
-        let residue = Residue {
-            coefficients: &drawn,
-            count: 0,
-            skip: u8::from(turn % 6 == 5) * random.within(1, 255) as u8,
-        };
-        let near = any_vector(9, random);
-        let flat = if turn % 7 == 6 {
-            near
-        } else {
-            whole_pixels(near)
-        };
-        let at = (turn % 3, turn / 3 % 2);
-        let (filter, flag) = ((turn % 2) as u8, (turn / 2 % 2) as u8);
-        let mut add = |kind, form, vectors| {
-            let call = Call::on(&picture, at, vectors, filter, flag);
-            finish(tape, kind, form, &call, &residue);
-        };
-        add(29, Finish::WholePixel, Vectors::equal(flat.row, flat.col));
-        add(30, Finish::Whole, Vectors::equal(near.row, near.col));
-        add(31, Finish::Split, split_vectors(turn, random));
-    }
-}
-
 fn main() {
-    let out = std::env::args().nth(1).expect("the file to write");
+    let mut files = std::env::args().skip(1);
+    let mut file = || files.next().expect("the two files to write");
+    let (out, finished_out) = (file(), file());
     let mut tape = Tape {
         bytes: Vec::new(),
         records: 0,
@@ -564,9 +483,9 @@ fn main() {
     filters(&mut tape, 14, 16, 3, random);
     planes(&mut tape, random);
     predictions(&mut tape, random);
-    finished_macroblocks(&mut tape, random);
     let records = tape.records;
     let bytes = tape.end();
     std::fs::write(&out, &bytes).expect("the file is written");
     println!("{records} records, {} bytes", bytes.len());
+    finished_tape::write(&finished_out, random);
 }

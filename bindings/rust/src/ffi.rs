@@ -7,6 +7,7 @@
 
 use crate::motion_vector::Mv;
 use crate::prediction::{Picture, Position};
+use crate::reconstruction::QuantIndices;
 
 /// A prediction has the picture and the position before what is its own, and the output after that.
 macro_rules! predictions {
@@ -56,6 +57,21 @@ predictions! {
     finished_split(vectors: &[u8; 64], codes: [u8; 3], numbers: &[i16]) = threshowl_reconstruct_split(
         vectors.as_ptr() => *const u8, vectors.len() => usize, codes[0] => u8, codes[1] => u8, codes[2] => u8,
         numbers.as_ptr() => *const i16, numbers.len() => usize);
+    levels_whole(mv: Mv, codes: [u8; 3], numbers: &[i16], q: QuantIndices) = threshowl_reconstruct_whole_from_levels(
+        mv.row => i16, mv.col => i16, codes[0] => u8, codes[1] => u8, codes[2] => u8,
+        numbers.as_ptr() => *const i16, numbers.len() => usize,
+        q.y_ac_qi => i32, q.y_dc_delta => i32, q.y2_dc_delta => i32, q.y2_ac_delta => i32, q.uv_dc_delta => i32,
+        q.uv_ac_delta => i32);
+    levels_whole_pixel(mv: Mv, codes: [u8; 2], numbers: &[i16], q: QuantIndices) = threshowl_reconstruct_whole_pixel_from_levels(
+        mv.row => i16, mv.col => i16, codes[0] => u8, codes[1] => u8,
+        numbers.as_ptr() => *const i16, numbers.len() => usize,
+        q.y_ac_qi => i32, q.y_dc_delta => i32, q.y2_dc_delta => i32, q.y2_ac_delta => i32, q.uv_dc_delta => i32,
+        q.uv_ac_delta => i32);
+    levels_split(vectors: &[u8; 64], codes: [u8; 3], numbers: &[i16], q: QuantIndices) = threshowl_reconstruct_split_from_levels(
+        vectors.as_ptr() => *const u8, vectors.len() => usize, codes[0] => u8, codes[1] => u8, codes[2] => u8,
+        numbers.as_ptr() => *const i16, numbers.len() => usize,
+        q.y_ac_qi => i32, q.y_dc_delta => i32, q.y2_dc_delta => i32, q.y2_ac_delta => i32, q.uv_dc_delta => i32,
+        q.uv_ac_delta => i32);
 }
 
 extern "C" {

@@ -2,7 +2,7 @@
 //!
 //! [`motion_comp`] has the calls and types of the module of that name of OxideAV/oxideav-vp8, so that a decoder swaps it for this
 //! one. [`prediction`] has what the original has not: refusals as values, a stride for each plane, merging, whole or by quarters,
-//! and prediction by a frame's version; [`reconstruction`] finishes macroblocks so. [`ivf`] mends recordings that were cut, [`y4m`]
+//! and prediction by a frame's version; [`reconstruction`] finishes macroblocks so, and from quantised levels. [`ivf`] mends recordings that were cut, [`y4m`]
 //! reads and writes the frames of YUV4MPEG2 files.
 //!
 //! Nothing is allocated and no state is kept: any number of threads may call. What a call may refuse is a [`Refusal`], which has

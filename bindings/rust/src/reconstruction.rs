@@ -7,6 +7,9 @@
 //!
 //! With `skip` the coefficients are counted, and not looked at: the prediction is the macroblock.
 //!
+//! The calls from levels take the quantised levels of a stream in the same order, any number each, and multiply them by the six
+//! factors of [`QuantIndices`]. The products are then the coefficients, and are refused as such.
+//!
 //! The numbers 5, 6 and 7 of the C header are never given: the types rule them out. 11 comes after all others.
 
 use crate::ffi;
@@ -136,4 +139,139 @@ pub fn reconstruct_split(
 ) -> Result<ReconstructedMb, Refusal> {
     let codes = [filter.code(), full_pixel.into(), skip.into()];
     written(|out| ffi::finished_split(picture, at, &bytes_of(mvs), codes, coefficients, out))
+}
+
+/// A base index and five deltas, as a frame's header has them (RFC 6386, section 9.6); any number each. An index is base plus
+/// delta, or the nearer end of 0..=127, and names a step of one of the two tables of section 14.1.
+#[derive(Clone, Copy, Debug, Default, PartialEq, Eq)]
+pub struct QuantIndices {
+    /// The base: the index of Y AC.
+    pub y_ac_qi: i32,
+    /// Of Y DC.
+    pub y_dc_delta: i32,
+    /// Of Y2 DC, whose step is doubled.
+    pub y2_dc_delta: i32,
+    /// Of Y2 AC, whose step is multiplied by 155 and divided by 100, and at least 8.
+    pub y2_ac_delta: i32,
+    /// Of chroma DC, whose step is at most 132.
+    pub uv_dc_delta: i32,
+    /// Of chroma AC.
+    pub uv_ac_delta: i32,
+}
+
+/// [`reconstruct_whole`] of the coefficients that [`COEFFICIENTS`] levels stand for.
+///
+/// Refuses with 1 to 4, or 11.
+///
+/// ```
+/// use threshowl::reconstruction::{reconstruct_whole_from_levels, QuantIndices, COEFFICIENTS};
+/// # use threshowl::motion_vector::Mv;
+/// # use threshowl::prediction::{Picture, Position};
+/// # use threshowl::tables::FilterSet;
+/// # use threshowl::Refusal;
+/// # let (luma, chroma) = ([100; 256], [50; 64]);
+/// # let picture = Picture {
+/// #     y: &luma, u: &chroma, v: &chroma, y_stride: 16, u_stride: 8, v_stride: 8, mb_cols: 1, mb_rows: 1,
+/// # };
+/// # let first = Position { mb_col: 0, mb_row: 0 };
+/// let finish = |levels: &[i16], indices| {
+///     reconstruct_whole_from_levels(&picture, first, Mv::default(), FilterSet::Sixtap, false, false, levels, indices)
+/// };
+/// let mut levels = [0; COEFFICIENTS];
+/// levels[0] = 8; // times 8 at index 0: Y2 gives 8 to each block of Y
+/// let mb = finish(&levels, QuantIndices::default())?;
+/// assert_eq!(mb.y, [101; 256]);
+///
+/// let highest = QuantIndices { y_ac_qi: 127, ..Default::default() };
+/// levels[17] = 14; // times 284
+/// assert!(finish(&levels, highest).is_ok());
+/// levels[17] = 15; // is beyond 4095
+/// assert_eq!(finish(&levels, highest), Err(Refusal::BadCoefficients));
+/// # Ok::<(), Refusal>(())
+/// ```
+#[allow(clippy::too_many_arguments)]
+pub fn reconstruct_whole_from_levels(
+    picture: &Picture<'_>,
+    at: Position,
+    mv: Mv,
+    filter: FilterSet,
+    full_pixel: bool,
+    skip: bool,
+    levels: &[i16],
+    indices: QuantIndices,
+) -> Result<ReconstructedMb, Refusal> {
+    let codes = [filter.code(), full_pixel.into(), skip.into()];
+    written(|out| ffi::levels_whole(picture, at, mv, codes, levels, indices, out))
+}
+
+/// [`reconstruct_whole_pixel`] of the coefficients that [`COEFFICIENTS`] levels stand for.
+///
+/// Refuses with 1 to 4, 8 for a vector that leaves a fraction, or 11.
+///
+/// ```
+/// # use threshowl::motion_vector::Mv;
+/// # use threshowl::prediction::{Picture, Position};
+/// # use threshowl::reconstruction::{reconstruct_whole_pixel_from_levels, QuantIndices, COEFFICIENTS};
+/// # let luma: Vec<u8> = (0..=255).collect();
+/// # let chroma = [50; 64];
+/// # let picture = Picture {
+/// #     y: &luma, u: &chroma, v: &chroma, y_stride: 16, u_stride: 8, v_stride: 8, mb_cols: 1, mb_rows: 1,
+/// # };
+/// # let first = Position { mb_col: 0, mb_row: 0 };
+/// let mut levels = [0; COEFFICIENTS];
+/// levels[16 + 20 * 16] = 3; // the first block of V, times 132 at the highest index
+/// let right = Mv { row: 0, col: 8 };
+/// let highest = QuantIndices { y_ac_qi: 127, ..Default::default() };
+/// let mb = reconstruct_whole_pixel_from_levels(&picture, first, right, false, false, &levels, highest)?;
+/// assert_eq!((mb.y[0], mb.v[0], mb.v[4]), (2, 100, 50));
+/// # Ok::<(), threshowl::Refusal>(())
+/// ```
+pub fn reconstruct_whole_pixel_from_levels(
+    picture: &Picture<'_>,
+    at: Position,
+    mv: Mv,
+    full_pixel: bool,
+    skip: bool,
+    levels: &[i16],
+    indices: QuantIndices,
+) -> Result<ReconstructedMb, Refusal> {
+    let codes = [full_pixel.into(), skip.into()];
+    written(|out| ffi::levels_whole_pixel(picture, at, mv, codes, levels, indices, out))
+}
+
+/// [`reconstruct_split`] of the coefficients that [`SPLIT_COEFFICIENTS`] levels stand for.
+///
+/// Refuses with 1 to 4, or 11.
+///
+/// ```
+/// # use threshowl::motion_vector::Mv;
+/// # use threshowl::prediction::{Picture, Position};
+/// # use threshowl::reconstruction::{reconstruct_split_from_levels, QuantIndices, SPLIT_COEFFICIENTS};
+/// # use threshowl::tables::FilterSet;
+/// # let (luma, chroma) = ([100; 256], [50; 64]);
+/// # let picture = Picture {
+/// #     y: &luma, u: &chroma, v: &chroma, y_stride: 16, u_stride: 8, v_stride: 8, mb_cols: 1, mb_rows: 1,
+/// # };
+/// # let first = Position { mb_col: 0, mb_row: 0 };
+/// let mut levels = [0; SPLIT_COEFFICIENTS];
+/// levels[5 * 16] = -2; // the block at row 4, column 4, times 157: 39 less
+/// let mvs = [Mv::default(); 16];
+/// let beyond = QuantIndices { y_ac_qi: 20, y_dc_delta: i32::MAX, ..Default::default() };
+/// let mb = reconstruct_split_from_levels(&picture, first, &mvs, FilterSet::Sixtap, false, false, &levels, beyond)?;
+/// assert_eq!((mb.y[4 * 16 + 3], mb.y[4 * 16 + 4]), (100, 61));
+/// # Ok::<(), threshowl::Refusal>(())
+/// ```
+#[allow(clippy::too_many_arguments)]
+pub fn reconstruct_split_from_levels(
+    picture: &Picture<'_>,
+    at: Position,
+    mvs: &[Mv; 16],
+    filter: FilterSet,
+    full_pixel: bool,
+    skip: bool,
+    levels: &[i16],
+    indices: QuantIndices,
+) -> Result<ReconstructedMb, Refusal> {
+    let codes = [filter.code(), full_pixel.into(), skip.into()];
+    written(|out| ffi::levels_split(picture, at, &bytes_of(mvs), codes, levels, indices, out))
 }

@@ -12,7 +12,8 @@ use threshowl::motion_vector::Mv;
 use threshowl::prediction::{predict_split, predict_whole, Picture, Position};
 use threshowl::reconstruct::ReconstructedMb;
 use threshowl::reconstruction::{
-    reconstruct_split, reconstruct_whole, reconstruct_whole_pixel, COEFFICIENTS, SPLIT_COEFFICIENTS,
+    reconstruct_split, reconstruct_split_from_levels, reconstruct_whole, reconstruct_whole_from_levels, reconstruct_whole_pixel,
+    reconstruct_whole_pixel_from_levels, QuantIndices, COEFFICIENTS, SPLIT_COEFFICIENTS,
 };
 use threshowl::tables::FilterSet;
 use threshowl::Refusal;
@@ -209,4 +210,65 @@ fn a_fraction_is_looked_for_first() {
     let (y2, y, u) = ([i16::MAX; 16], [[0; 16]; 16], [[0; 16]; 4]);
     let answer = reconstruct_inter_mb_whole_pixel(&short, 9, 9, Mv { row: 1, col: 0 }, false, false, &y2, &y, &u, &u);
     assert_eq!(answer, Err(MotionCompError::SubPixelNotSupported));
+}
+
+/// Indices with one of six at its end, all others at the other, and the six factors of number i that go with them.
+fn one_at_its_end(which: usize) -> (QuantIndices, impl Fn(usize) -> i16) {
+    let mut deltas = [-128; 5];
+    let base = if which == 1 { 127 } else { 0 };
+    if which != 1 {
+        deltas[[0, 0, 1, 2, 3, 4][which]] = 128;
+    }
+    let [y_dc_delta, y2_dc_delta, y2_ac_delta, uv_dc_delta, uv_ac_delta] = deltas;
+    let indices = QuantIndices { y_ac_qi: base, y_dc_delta, y2_dc_delta, y2_ac_delta, uv_dc_delta, uv_ac_delta };
+    let ends = [[4, 157], [4, 284], [8, 314], [8, 440], [4, 132], [4, 284]];
+    let factor = move |i: usize| {
+        let plane = if i < 16 { 2 } else { 4 * usize::from(i >= 272) };
+        let kind = plane + usize::from(i % 16 > 0);
+        ends[kind][usize::from(kind == which)]
+    };
+    (indices, factor)
+}
+
+#[test]
+fn levels_are_multiplied() {
+    let mut draw = Draw::new();
+    for turn in 0..600 {
+        let planes = Planes::drawn(&mut draw);
+        let picture = Picture::from(reference(&planes));
+        let (indices, factor) = one_at_its_end(turn % 6);
+        let levels: [i16; COEFFICIENTS] = std::array::from_fn(|_| draw.below(19) as i16 - 9);
+        let products: [i16; COEFFICIENTS] = std::array::from_fn(|i| levels[i] * factor(i));
+        let at = Position { mb_col: planes.mb_col, mb_row: planes.mb_row };
+        let (mv, set, skip) = (vector(&mut draw), SETS[turn % 2], turn % 5 == 4);
+        let mvs: [Mv; 16] = std::array::from_fn(|_| vector(&mut draw));
+        let whole = reconstruct_whole(&picture, at, mv, set, false, skip, &products);
+        assert!(whole.is_ok());
+        assert_eq!(reconstruct_whole_from_levels(&picture, at, mv, set, false, skip, &levels, indices), whole);
+        let pixel = reconstruct_whole_pixel(&picture, at, mv, true, skip, &products);
+        assert_eq!(reconstruct_whole_pixel_from_levels(&picture, at, mv, true, skip, &levels, indices), pixel);
+        let split = reconstruct_split(&picture, at, &mvs, set, true, skip, &products[16..]);
+        assert!(split.is_ok());
+        assert_eq!(reconstruct_split_from_levels(&picture, at, &mvs, set, true, skip, &levels[16..], indices), split);
+    }
+}
+
+#[test]
+fn levels_are_refused_by_their_products() {
+    let picture = Picture::from(flat());
+    let last = QuantIndices { y_ac_qi: i32::MAX, uv_ac_delta: i32::MAX, ..Default::default() };
+    let finish = |levels: &[i16]| {
+        reconstruct_whole_from_levels(&picture, FIRST, Mv::default(), FilterSet::Sixtap, false, false, levels, last)
+    };
+    let mut levels = [0; COEFFICIENTS];
+    for (i, most) in [(0, 52), (1, 37), (17, 14), (272, 31), (399, 14)] {
+        for (level, accepted) in [(most, true), (-most, true), (most + 1, false), (-most - 1, false), (i16::MIN, false)] {
+            levels[i] = level;
+            assert_eq!(finish(&levels).is_ok(), accepted, "level {level} in place {i}");
+        }
+        levels[i] = 0;
+    }
+    levels[16] = i16::MAX; // Y2 replaces what it stands for
+    assert!(finish(&levels).is_ok());
+    assert_eq!(finish(&levels[1..]), Err(Refusal::BadCoefficients));
 }

@@ -4,7 +4,13 @@ ghost use mathlib.Core.Path.{_≡_};
 ghost use Rattle.rfc6386.specs.Vector.{fullPixel};
 ghost use Rattle.rfc6386.specs.Macroblock.{lent, whole, split, wholePixel};
 ghost use Rattle.residue.specs.Reconstruction.{wholeFinished, splitFinished};
+
+mod from_levels;
+
 use entries::planes::ReferencePlanes;
+pub use from_levels::reconstruct_inter_mb_from_levels;
+pub use from_levels::reconstruct_inter_mb_whole_pixel_from_levels;
+pub use from_levels::reconstruct_split_mv_mb_from_levels;
 use rfc6386::FilterSet;
 use rfc6386::Mv;
 use rfc6386::Prediction;

@@ -1,26 +1,9 @@
 // The file's last record: the count of those before it, and the check sum of all bytes before the sum.
 use shims::bytes::byte_at;
 use shims::bytes::part;
-use shims::bytes::word;
+use shims::sums::check_sum;
+use shims::sums::long;
 use std::num::wrapping_add_usize;
-
-fn more(sum: u64, byte: u8) -> u64 {
-    (sum % 4294967291 * 31 + (byte as u64)) % 4294967291
-}
-
-fn check_sum(s: &[u8]) -> u64 {
-    let mut sum: u64 = 0;
-    let mut i: usize = 0;
-    while i < s.len() {
-        sum = more(sum, s[i]);
-        i += 1;
-    }
-    sum
-}
-
-fn long(s: &[u8]) -> u64 {
-    (word(s) as u64) + 65536 * (word(part(s, 2, 2)) as u64)
-}
 
 // The file ends with the record at `at`, and that says what it should.
 pub fn is_whole(file: &[u8], at: usize, records: usize) -> bool {

@@ -1,9 +1,9 @@
 // Replays answers of the Rust that was ported, and says of each function how many it was held to and how many differ. They stand in
 // data/answers.bin, whose form tests/oracle/recorder.rs describes. It was made from the Rust at commit 6707c95fae, scalar, by
-// `tests/oracle/record PATH-TO-RUST-SRC crates/rust_answers/data/answers.bin`, which makes the same file again.
+// `tests/oracle/record PATH-TO-RUST-SRC crates/rust_answers/data/answers.bin crates/finished_answers/data/finished.bin`, which makes the same
+// files again.
 mod alone;
 mod ending;
-mod finished;
 mod macroblocks;
 mod planes;
 mod replay;

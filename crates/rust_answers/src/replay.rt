@@ -1,6 +1,5 @@
 // Goes through the file, record by record.
 use crate::alone;
-use crate::finished;
 use crate::macroblocks;
 use crate::planes;
 use crate::planes::Plane;
@@ -68,9 +67,6 @@ fn length_of(kind: u8) -> usize {
         23 => 392,
         24 => 393,
         25 => 453,
-        29 => 1193,
-        30 => 1193,
-        31 => 1253,
         _ => 0,
     }
 }
@@ -134,18 +130,14 @@ fn held(file: &[u8], kind: u8, r: &[u8], s: State) -> Tally {
     };
     let of_u = planes::bytes_of(file, u);
     let of_v = planes::bytes_of(file, v);
-    if kind < 26 {
-        return macroblocks::held(kind, of_y, of_u, of_v, sizes, r, t);
-    }
-    let same = finished::agrees(kind, of_y, of_u, of_v, sizes, r);
-    counted(t, kind as usize, same)
+    macroblocks::held(kind, of_y, of_u, of_v, sizes, r, t)
 }
 
 fn turn(file: &[u8], s: State) -> State {
     let kind = byte_at(file, s.at);
     let from = wrapping_add_usize(s.at, 1);
     let mut next = s;
-    if kind == 0 || 31 < kind {
+    if kind == 0 || 25 < kind {
         next.is_over = true;
         return next;
     }

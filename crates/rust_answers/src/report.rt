@@ -17,7 +17,7 @@ fn line(name: &[u8], replayed: u64, differ: u64) {
 }
 
 fn of_function(name: &[u8], t: Tally, which: usize) {
-    if which < 32 {
+    if which < 29 {
         line(name, t.replayed[which], t.differ[which]);
     }
 }
@@ -61,12 +61,6 @@ fn macroblocks(t: Tally) {
     of_function(b"predict_split_mv_by_version", t, SPLIT_BY_VERSION);
 }
 
-fn finished(t: Tally) {
-    of_function(b"reconstruct_inter_mb_whole_pixel", t, 29);
-    of_function(b"reconstruct_inter_mb", t, 30);
-    of_function(b"reconstruct_split_mv_mb", t, 31);
-}
-
 // Replays the file.
 pub fn all(file: &[u8]) {
     let s = through(file);
@@ -75,7 +69,6 @@ pub fn all(file: &[u8]) {
     filters(t);
     planes(t);
     macroblocks(t);
-    finished(t);
     line(b"in all", t.all_replayed, t.all_differ);
     if is_whole(file, s.at, s.records) {
         io::write_all(STDOUT_FILENO, b"the file is whole\n");

@@ -9,16 +9,16 @@ pub const MERGING: usize = 27;
 pub const SPLIT_BY_VERSION: usize = 28;
 
 pub struct Tally {
-    pub replayed: [u64; 32],
-    pub differ: [u64; 32],
+    pub replayed: [u64; 29],
+    pub differ: [u64; 29],
     pub all_replayed: u64,
     pub all_differ: u64,
 }
 
 pub fn nothing() -> Tally {
     Tally {
-        replayed: [0u64; 32],
-        differ: [0u64; 32],
+        replayed: [0u64; 29],
+        differ: [0u64; 29],
         all_replayed: 0,
         all_differ: 0,
     }
@@ -26,7 +26,7 @@ pub fn nothing() -> Tally {
 
 // With one answer more for the function of that number.
 pub fn counted(t: Tally, which: usize, same: bool) -> Tally {
-    if 32 <= which {
+    if 29 <= which {
         return t;
     }
     let wrong = !same as u64;

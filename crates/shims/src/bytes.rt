@@ -59,6 +59,17 @@ pub fn mvs_of(s: &[u8]) -> [Mv; 16] {
     mvs
 }
 
+// A macroblock's numbers, Y2 first.
+pub fn numbers_of(s: &[u8]) -> [i16; 400] {
+    let mut numbers = [0i16; 400];
+    let mut i: usize = 0;
+    while i < 400 {
+        numbers[i] = signed(word(part(s, 2 * i, 2)));
+        i += 1;
+    }
+    numbers
+}
+
 pub fn bytes_of(mv: Mv) -> [u8; 4] {
     let row = bits(mv.row);
     let col = bits(mv.col);

@@ -7,6 +7,9 @@ use native.Mathlib.Omega.{arith}
 use lib.ListN.{length, getD, length-append, List·getD-append}
 use lib.Seq.{getD-append-add}
 use lib.IntN.{ℤ}
+use mir.Syntax.{w32}
+use mir.Val.{SFits, toZ, ofZ}
+use mir.Facts.{toZ-ofZ}
 use Rattle.rfc6386.specs.Vector.{Lowering, lumaVector, chromaVector, isWhole}
 use Rattle.rfc6386.specs.Picture.{image}
 use Rattle.rfc6386.specs.Raster.{tab}
@@ -18,8 +21,10 @@ use Rattle.rfc6386.specs.Laws.Halos.{whole-block}
 use Rattle.residue.specs.Coefficients.{finishedPlane, finished}
 use Rattle.residue.specs.Reconstruction.{finishedUnless}
 use Rattle.residue.specs.Inner.{piece}
+use Rattle.quantisers.specs.Inner.{Offered}
+use Rattle.quantisers.specs.Keeping.{unless-alike}
 use Rattle.outputs.specs.Output.{flat, callNumber, Left}
-use Rattle.threshowl.specs.Finished.{lateNumber, Finishes, pixelsAt, finishedBytes}
+use Rattle.threshowl.specs.Finished.{lateNumber, Finishes, pixelsAt, quantiser, finishedBytes}
 use Rattle.outputs.specs.Laws.{Counted, has-room, zeros}
 use Rattle.rfc6386.specs.declared.Mv.{Mv}
 use Rattle.rfc6386.specs.declared.FilterSet.{FilterSet}
@@ -150,3 +155,24 @@ module _ (set : FilterSet) (low : Lowering) (ref : Reference) (col row : ℕ) (v
             ap (λ (s : ReconstructedMb). flat (finishedUnless skip c (ifDone (refusal ref col row) s noSamples)))
             (same-samples (or-else-zero (fractionLeft low v) late (zeros first last z))));
       }
+
+-- ---- coefficients that do for others, tested after a number of their own
+module _ {refusal : Bool → List ℤ → ℕ} {used : List ℤ → List ℤ} {skip : Bool} {p c : List ℤ} (first : ℕ) (O : Offered refusal used skip p c) where
+  pub finishes-offered : {P : Prediction} {codes : ℕ} {out : List ℕ} {r : ℕ} {out′ : List ℕ}
+      → Finishes P codes (orElse first (refusal skip c)) skip (used c) out r out′ → Finishes P codes (orElse first (refusal skip p)) skip (used p) out r out′
+  finishes-offered {P} {codes} {out} F =
+      let call = callNumber P codes out in
+      let late = orElse first (refusal skip p) in
+      let same : orElse call (orElse first (refusal skip c)) ≡ orElse call late = ap (λ (n : ℕ). orElse call (orElse first n)) (O .refused-alike) in
+      record {
+        number-is = F .number-is ∙ same;
+        bytes-are =
+            F .bytes-are
+            ∙ ap (λ (n : ℕ). ifDone n (flat (finishedUnless skip (used c) (P .samples))) out) same
+            ∙ if-done (orElse call late) out (λ z. ap flat (unless-alike skip O (zeros first (refusal skip p) (zeros call late z)) (P .samples)));
+      }
+
+-- base index and deltas, as they are read back
+pub same-quantiser : {a b c d e f : ℤ} → SFits w32 a → SFits w32 b → SFits w32 c → SFits w32 d → SFits w32 e → SFits w32 f
+    → quantiser (toZ w32 (ofZ w32 a)) (toZ w32 (ofZ w32 b)) (toZ w32 (ofZ w32 c)) (toZ w32 (ofZ w32 d)) (toZ w32 (ofZ w32 e)) (toZ w32 (ofZ w32 f)) ≡ quantiser a b c d e f
+same-quantiser p q r s t u = λ i. quantiser (toZ-ofZ p i) (toZ-ofZ q i) (toZ-ofZ r i) (toZ-ofZ s i) (toZ-ofZ t i) (toZ-ofZ u i)

@@ -11,6 +11,7 @@ use Rattle.residue.specs.Coefficients.{finishedPlane}
 use Rattle.residue.specs.Reconstruction.{finishedUnless}
 use Rattle.residue.specs.Inner.{piece}
 use Rattle.outputs.specs.Output.{flat, callNumber}
+use Rattle.quantisers.specs.declared.QuantIndices.{QuantIndices}
 use Rattle.rfc6386.specs.declared.Mv.{Mv}
 use Rattle.rfc6386.specs.declared.Prediction.{Prediction}
 
@@ -26,6 +27,11 @@ pub record Finishes (p : Prediction) (codes late : ℕ) (skip : Bool) (c : List 
 -- prediction at whole pixels, without its number 8, which here comes after 7
 abbrev pub pixelsAt : Lowering → Reference → ℕ → ℕ → Mv → Prediction
 pixelsAt low ref col row v = answered (refusal ref col row) (pixelSamples low ref col row v)
+
+-- ---- from levels: base index and deltas as they are handed over
+abbrev pub quantiser : ℤ → ℤ → ℤ → ℤ → ℤ → ℤ → QuantIndices
+quantiser base yDc y2Dc y2Ac uvDc uvAc =
+    record { «y_ac_qi» = base; «y_dc_delta» = yDc; «y2_dc_delta» = y2Dc; «y2_ac_delta» = y2Ac; «uv_dc_delta» = uvDc; «uv_ac_delta» = uvAc }
 
 -- ---- what the private functions that finish promise: the samples of a macroblock as 384 bytes
 abbrev pub finishedBytes : Bool → List ℤ → List ℕ → List ℕ

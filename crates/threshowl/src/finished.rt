@@ -29,7 +29,7 @@ use rfc6386::Sizes;
 use vector_bytes::mvs_of_bytes;
 
 // Number 8 for a vector that leaves a fraction.
-fn fraction_refusal(mv: Mv, full_pixel: bool) -> u32
+pub fn fraction_refusal(mv: Mv, full_pixel: bool) -> u32
     ensures { λ r. ⌜ r ≡ fractionLeft (fullPixel «full_pixel») mv ⌝ }
 {
     let luma = luma_vector(mv, full_pixel);
@@ -38,13 +38,13 @@ fn fraction_refusal(mv: Mv, full_pixel: bool) -> u32
 }
 
 // Codes for a call that predicts: with a number after that of the output's room, it writes nothing where that number is not 0.
-fn with_late(codes: u32, room: usize, late: u32) -> u32
+pub fn with_late(codes: u32, room: usize, late: u32) -> u32
     ensures { λ r. ⌜ r ≡ orElse codes (orElse (roomRefusal room) late) ⌝ }
 {
     or_else(codes, or_else(room_refusal(room), late))
 }
 
-fn finish_whole(out: &mut [u8], c: &[i16], skip: bool)
+pub fn finish_whole(out: &mut [u8], c: &[i16], skip: bool)
     requires { ⌜ (length (now out) ≡ 384) × (wholeRefusal skip (now c) ≡ 0) ⌝ }
     ensures { λ _. ⌜ now (out .exit) ≡ finishedBytes skip (coefficient.seeded (now (c .entry))) (now (out .entry)) ⌝ }
 {

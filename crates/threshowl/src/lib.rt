@@ -2,5 +2,6 @@
 pub mod boundary;
 pub mod by_version;
 pub mod finished;
+pub mod from_levels;
 pub mod pictures;
 pub mod recordings;

@@ -1,8 +1,8 @@
--- `finished::numbers_of` ends after 400 turns. Assumes nothing.
+-- `bytes::numbers_of` ends after 400 turns. Assumes nothing.
 use Prim.Native.Nat.{_≤_, _-_}
 use borrow.Author.Needs.{needs}
-use Rattle.rust_answers.proofs.finished.numbers_of.Statement.{statement}
-use Rattle.rust_answers.proofs.finished.numbers_of.Tie as tie
+use Rattle.shims.proofs.bytes.numbers_of.Statement.{statement}
+use Rattle.shims.proofs.bytes.numbers_of.Tie as tie
 
 abbrev Inv-loop : tie.InvT-loop
 Inv-loop s numbers₀ i₀ numbers i = i ≤ 400

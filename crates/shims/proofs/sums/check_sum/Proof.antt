@@ -1,9 +1,9 @@
--- `rust_answers::ending::check_sum` ends with the bytes. Assumes nothing.
+-- `sums::check_sum` ends with the bytes. Assumes nothing.
 use Prim.Native.Nat.{_≤_, _-_}
 use lib.ListN.{length}
 use borrow.Author.Needs.{needs}
-use Rattle.rust_answers.proofs.ending.check_sum.Statement.{statement}
-use Rattle.rust_answers.proofs.ending.check_sum.Tie as tie
+use Rattle.shims.proofs.sums.check_sum.Statement.{statement}
+use Rattle.shims.proofs.sums.check_sum.Tie as tie
 
 abbrev Inv-loop : tie.InvT-loop
 Inv-loop s sum₀ i₀ sum i = i ≤ length s

@@ -1,0 +1,2 @@
+-- Laws that several proofs of this crate cite.
+pub mod Writing
