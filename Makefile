@@ -8,6 +8,8 @@
 #   make mirror             flip pictures and vectors, and compare the answers
 #   make versions           every version number, on good input and with faults
 #   make quarters           merging by quarters beside split, and with faults
+#   make frames             whole frames beside single calls, and with faults
+#   make frame-bench        a frame's time beside that of single calls
 #   make programs           the programs for people, in target/programs
 #   make tools-check        build them, and try each on small files
 #   make freestanding       link a host that has no C library, and run it
@@ -41,7 +43,7 @@
 # RUSTC=..., see tests/x86-64.sh; the benchmark times a library made for that
 # processor, see bench/native-archive.
 
-VERSION = 0.6.0
+VERSION = 0.7.0
 PREFIX = /usr/local
 DESTDIR =
 ARCHIVE = target/staticlib/libthreshowl.a
@@ -70,7 +72,7 @@ HOST = examples/lamp_panel.c
 EXPECTED = examples/lamp_panel.expected
 FREESTANDING = tests/freestanding/host.c
 
-.PHONY: demo demo-check check mirror versions quarters oracle bench install install-check clean tools rust-named FORCE
+.PHONY: demo demo-check check mirror versions quarters frames frame-bench oracle bench install install-check clean tools rust-named FORCE
 .PHONY: bindings-check libvpx-check programs tools-check freestanding ivf-evidence ivf-bench y4m-evidence y4m-bench rfc-version3 rfc-transforms rfc-factors rfc-named
 
 demo: target/demo/lamp_panel
@@ -94,6 +96,14 @@ versions: target/versions/versions
 
 quarters: target/quarters/quarters
 	$(EMULATOR) target/quarters/quarters $(SEED)
+
+frames: target/frame/frame
+	$(EMULATOR) target/frame/frame $(SEED)
+
+frame-bench: $(ARCHIVE) | tools
+	mkdir -p target/bench
+	$(AS_C) -Iinclude bench/frame.c "$(ARCHIVE)" $(LDLIBS) -o target/bench/frame
+	$(EMULATOR) target/bench/frame
 
 # A program NAME is programs/NAME.c, its page programs/NAME.1, its trial programs/NAME.test.
 PROGRAMS = mend y4m
@@ -186,7 +196,7 @@ target/freestanding/host: $(FREESTANDING) include/threshowl.h $(ARCHIVE) | tools
 	    -Wl,--whole-archive "$(ARCHIVE)" -Wl,--no-whole-archive -o $@
 
 # The driver NAME is tests/NAME/NAME.c.
-target/mirror/mirror target/versions/versions target/quarters/quarters: target/%: tests/%.c tests/draw.h include/threshowl.h $(ARCHIVE) | tools
+target/mirror/mirror target/versions/versions target/quarters/quarters target/frame/frame: target/%: tests/%.c tests/draw.h include/threshowl.h $(ARCHIVE) | tools
 	mkdir -p $(@D)
 	$(AS_C) -Iinclude $< "$(ARCHIVE)" $(LDLIBS) -o $@
 

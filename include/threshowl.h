@@ -1,15 +1,16 @@
 /*
- * threshowl.h: VP8 inter prediction of one macroblock, and the decoded
- * macroblock, for C11 and C++17.
+ * threshowl.h: VP8 inter prediction of one macroblock or of a whole frame, and
+ * the decoded macroblock, for C11 and C++17.
  *
  * Four functions predict a macroblock from a reference picture: whole (one
  * vector), split (sixteen vectors), merging (sixteen vectors, taken for one
  * where all are equal and no picture could tell) and quarters (sixteen vectors,
  * of which equal ones are taken together in luma, by squares).  Two more do the
- * first two by the version number of a frame's tag, and three add the residue
- * to a whole, a whole-pixel or a split prediction; three more add it from
- * quantised levels.  Link libthreshowl.a.  It needs two symbols of the host,
- * memcpy and memset as C has them, and no others.
+ * first two by the version number of a frame's tag, three add the residue to a
+ * whole, a whole-pixel or a split prediction, three more add it from quantised
+ * levels, and one predicts every macroblock of a frame, straight into the
+ * frame.  Link libthreshowl.a.  It needs two symbols of the host, memcpy and
+ * memset as C has them, and no others.
  *
  *
  * The reference picture
@@ -127,6 +128,10 @@ enum {
        like it from levels. */
     THRESHOWL_FRACTION_LEFT = 8,
 
+    /* orders_len is not 66 * mb_cols * mb_rows, or a code in the orders is none.
+       threshowl_predict_frame alone gives this number. */
+    THRESHOWL_BAD_ORDERS = 9,
+
     /* version is above 3, whatever else is at fault.  The functions by version
        alone give this number. */
     THRESHOWL_RESERVED_VERSION = 10,
@@ -228,6 +233,63 @@ uint32_t threshowl_predict_split_by_version(
     const uint8_t *vectors, size_t vectors_len,
     uint8_t version, uint8_t standard,
     uint8_t *out, size_t out_len);
+
+/*
+ * Whole frames
+ *
+ * One call predicts all macroblocks of a frame from three references, last,
+ * golden and altref, and writes them to the planes of a frame.  The references
+ * share sizes and strides, and may be the same planes.
+ *
+ * orders    66 bytes for each macroblock, row after row: the code of its
+ *           reference, 0 last, 1 golden or 2 altref; its kind, 0 whole or 1
+ *           split; and sixteen vectors, 64 bytes as above, of which whole takes
+ *           the first and does not look at the others.
+ * out_y, out_u, out_v
+ *           planes of the sizes of the references', with strides of their own,
+ *           to which the same limits apply, and lengths by these.
+ *
+ * With 0 each macroblock holds what threshowl_predict_whole or
+ * threshowl_predict_split gives for its order, and every byte between width and
+ * stride and after the last row is as it was.  With any other number the call is
+ * refused, and not one byte of the three is changed: all orders are looked at
+ * before the first byte is written.
+ *
+ * The tests are made in the order of their numbers: 1, 2 and 3 of all
+ * references, then 5; 7 (THRESHOWL_BAD_OUT) where a plane of out is such as 2 or
+ * 3 would refuse, read with its own stride; 9 (THRESHOWL_BAD_ORDERS) last.
+ *
+ * What is written overlaps nothing else that is handed over; what is read may
+ * overlap what is read.  No pointer is NULL.
+ */
+#define THRESHOWL_ORDER_LEN 66
+#define THRESHOWL_LAST 0
+#define THRESHOWL_GOLDEN 1
+#define THRESHOWL_ALTREF 2
+#define THRESHOWL_WHOLE 0
+#define THRESHOWL_SPLIT 1
+
+/*
+ * Gives 0, 1, 2, 3, 5, 7 or 9.
+ */
+uint32_t threshowl_predict_frame(
+    const uint8_t *last_y, size_t last_y_len,
+    const uint8_t *last_u, size_t last_u_len,
+    const uint8_t *last_v, size_t last_v_len,
+    const uint8_t *golden_y, size_t golden_y_len,
+    const uint8_t *golden_u, size_t golden_u_len,
+    const uint8_t *golden_v, size_t golden_v_len,
+    const uint8_t *altref_y, size_t altref_y_len,
+    const uint8_t *altref_u, size_t altref_u_len,
+    const uint8_t *altref_v, size_t altref_v_len,
+    size_t y_stride, size_t u_stride, size_t v_stride,
+    size_t mb_cols, size_t mb_rows,
+    const uint8_t *orders, size_t orders_len,
+    uint8_t filter, uint8_t full_pixel,
+    uint8_t *out_y, size_t out_y_len,
+    uint8_t *out_u, size_t out_u_len,
+    uint8_t *out_v, size_t out_v_len,
+    size_t out_y_stride, size_t out_u_stride, size_t out_v_stride);
 
 /*
  * Decoded macroblocks

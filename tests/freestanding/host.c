@@ -47,7 +47,8 @@ enum { COL = 4, OLD = 0xAA, V_STRIDE = 13 };
 static uint8_t y[256], u[64], v[V_STRIDE * 7 + 8], due[THRESHOWL_OUT_LEN], out[THRESHOWL_OUT_LEN];
 static uint8_t vectors[THRESHOWL_VECTORS_LEN];
 
-#define PICTURE y, sizeof y, u, sizeof u, v, sizeof v, 16, 8, V_STRIDE, 1, 1, 0, 0
+#define PLANES y, sizeof y, u, sizeof u, v, sizeof v
+#define PICTURE PLANES, 16, 8, V_STRIDE, 1, 1, 0, 0
 #define VECTORS vectors, sizeof vectors
 
 static int same(const uint8_t *a, const uint8_t *b, size_t len)
@@ -124,6 +125,20 @@ static int whole_by_version(void)
 static int split_by_version(void)
 {
     return predicted(threshowl_predict_split_by_version(PICTURE, VECTORS, 2, 1, out, sizeof out));
+}
+
+/* A frame of the one macroblock, split from altref, with rows of V that are longer
+   than they need be. */
+static int predict_frame(void)
+{
+    static uint8_t frame_y[256], frame_u[64], frame_v[8 * V_STRIDE], order[THRESHOWL_ORDER_LEN];
+    order[0] = THRESHOWL_ALTREF;
+    order[1] = THRESHOWL_SPLIT;
+    memcpy(order + 2, vectors, sizeof vectors);
+    return threshowl_predict_frame(PLANES, PLANES, PLANES, 16, 8, V_STRIDE, 1, 1, order, sizeof order, THRESHOWL_BILINEAR, 0, frame_y,
+                                   sizeof frame_y, frame_u, sizeof frame_u, frame_v, sizeof frame_v, 16, 8, V_STRIDE) == THRESHOWL_DONE
+           && same(frame_y, due, 256) && same(frame_u, due + 256, 64) && same(frame_v, due + 320, 8)
+           && same(frame_v + V_STRIDE, due + 328, 8) && frame_v[8] == 0;
 }
 
 /* ---- Decoded macroblocks: the same, with the residue added ---- */
@@ -259,7 +274,7 @@ static int frame(void)
 
 /* ---- Where the program begins and ends (Linux, x86-64) ---- */
 
-static int (*const calls[])(void) = {whole, split, merging, quarters, whole_by_version, split_by_version,
+static int (*const calls[])(void) = {whole, split, merging, quarters, whole_by_version, split_by_version, predict_frame,
                                     reconstruct_whole, reconstruct_split, reconstruct_whole_pixel,
                                     reconstruct_whole_from_levels, reconstruct_whole_pixel_from_levels,
                                     reconstruct_split_from_levels, mend, header, frame};

@@ -2,9 +2,10 @@
 //! and what is written is lent alone; beyond that the C functions take every value.
 //!
 //! A further function of the header is declared here, and offered by the module that it belongs to: predictions by `prediction`,
-//! those that add the residue by `reconstruction`, and both under the original's name by `motion_comp` where it has one. A
+//! that of a frame by `frame`, those that add the residue by `reconstruction`, and the first and the last under the original's name by `motion_comp` where it has one. A
 //! prediction is one entry of `predictions!`.
 
+use crate::frame::{Frame, References};
 use crate::motion_vector::Mv;
 use crate::prediction::{Picture, Position};
 use crate::reconstruction::QuantIndices;
@@ -75,6 +76,45 @@ predictions! {
 }
 
 extern "C" {
+    fn threshowl_predict_frame(
+        last_y: *const u8,
+        last_y_len: usize,
+        last_u: *const u8,
+        last_u_len: usize,
+        last_v: *const u8,
+        last_v_len: usize,
+        golden_y: *const u8,
+        golden_y_len: usize,
+        golden_u: *const u8,
+        golden_u_len: usize,
+        golden_v: *const u8,
+        golden_v_len: usize,
+        altref_y: *const u8,
+        altref_y_len: usize,
+        altref_u: *const u8,
+        altref_u_len: usize,
+        altref_v: *const u8,
+        altref_v_len: usize,
+        y_stride: usize,
+        u_stride: usize,
+        v_stride: usize,
+        mb_cols: usize,
+        mb_rows: usize,
+        orders: *const u8,
+        orders_len: usize,
+        filter: u8,
+        full_pixel: u8,
+        out_y: *mut u8,
+        out_y_len: usize,
+        out_u: *mut u8,
+        out_u_len: usize,
+        out_v: *mut u8,
+        out_v_len: usize,
+        out_y_stride: usize,
+        out_u_stride: usize,
+        out_v_stride: usize,
+    ) -> u32;
+
     fn threshowl_ivf_mend(
         file: *const u8,
         file_len: usize,
@@ -106,6 +146,51 @@ extern "C" {
         out_len: usize,
         written: *mut u64,
     ) -> u32;
+}
+
+pub(crate) fn predict_frame(references: &References<'_>, orders: &[u8], codes: [u8; 2], frame: &mut Frame<'_>) -> u32 {
+    let References { last, golden, altref, .. } = references;
+    // SAFETY: as the head of this file says.
+    unsafe {
+        threshowl_predict_frame(
+            last.y.as_ptr(),
+            last.y.len(),
+            last.u.as_ptr(),
+            last.u.len(),
+            last.v.as_ptr(),
+            last.v.len(),
+            golden.y.as_ptr(),
+            golden.y.len(),
+            golden.u.as_ptr(),
+            golden.u.len(),
+            golden.v.as_ptr(),
+            golden.v.len(),
+            altref.y.as_ptr(),
+            altref.y.len(),
+            altref.u.as_ptr(),
+            altref.u.len(),
+            altref.v.as_ptr(),
+            altref.v.len(),
+            references.y_stride,
+            references.u_stride,
+            references.v_stride,
+            references.mb_cols,
+            references.mb_rows,
+            orders.as_ptr(),
+            orders.len(),
+            codes[0],
+            codes[1],
+            frame.y.as_mut_ptr(),
+            frame.y.len(),
+            frame.u.as_mut_ptr(),
+            frame.u.len(),
+            frame.v.as_mut_ptr(),
+            frame.v.len(),
+            frame.y_stride,
+            frame.u_stride,
+            frame.v_stride,
+        )
+    }
 }
 
 /// The number, and the three that the call reports.

@@ -2,8 +2,8 @@
 //!
 //! [`motion_comp`] has the calls and types of the module of that name of OxideAV/oxideav-vp8, so that a decoder swaps it for this
 //! one. [`prediction`] has what the original has not: refusals as values, a stride for each plane, merging, whole or by quarters,
-//! and prediction by a frame's version; [`reconstruction`] finishes macroblocks so, and from quantised levels. [`ivf`] mends recordings that were cut, [`y4m`]
-//! reads and writes the frames of YUV4MPEG2 files.
+//! and prediction by a frame's version; [`frame`] predicts a whole frame at once, and [`reconstruction`] finishes macroblocks, also from
+//! quantised levels. [`ivf`] mends recordings that were cut, [`y4m`] reads and writes the frames of YUV4MPEG2 files.
 //!
 //! Nothing is allocated and no state is kept: any number of threads may call. What a call may refuse is a [`Refusal`], which has
 //! the number of the C header and its words. What types can rule out is ruled out by them: the calls of prediction, and those that
@@ -41,6 +41,7 @@
 // So that motion_comp.rs names this crate alike here and where a decoder takes the file in.
 extern crate self as threshowl;
 
+pub mod frame;
 pub mod ivf;
 pub mod motion_comp;
 pub mod motion_vector;

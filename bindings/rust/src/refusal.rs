@@ -26,6 +26,8 @@ pub enum Refusal {
     BadOut,
     /// 8: a vector leaves a fraction of a pixel.
     FractionLeft,
+    /// 9: orders of another length than the frame wants, or with a code that is none.
+    BadOrders,
     /// 10: a version above 3.
     ReservedVersion,
     /// 11: another count of coefficients than there should be, or, not skipped, one beyond its range.
@@ -40,7 +42,7 @@ pub enum Refusal {
     NotIvf,
 }
 
-const ALL: [Refusal; 14] = [
+const ALL: [Refusal; 15] = [
     Refusal::BadSize,
     Refusal::BadStride,
     Refusal::ShortPlane,
@@ -49,6 +51,7 @@ const ALL: [Refusal; 14] = [
     Refusal::BadVectors,
     Refusal::BadOut,
     Refusal::FractionLeft,
+    Refusal::BadOrders,
     Refusal::ReservedVersion,
     Refusal::BadCoefficients,
     Refusal::BadHeader,
@@ -78,6 +81,7 @@ impl Refusal {
             Refusal::BadVectors => (6, "there are not sixteen vectors"),
             Refusal::BadOut => (7, "the output has the wrong size, or is too small"),
             Refusal::FractionLeft => (8, "the vector leaves a fraction of a pixel"),
+            Refusal::BadOrders => (9, "the orders have another length than the frame wants, or a code that is none"),
             Refusal::ReservedVersion => (10, "the version is above 3"),
             Refusal::BadCoefficients => (11, "the count of coefficients is wrong, or one is beyond its range"),
             Refusal::BadHeader => (12, "not a YUV4MPEG2 header that the format allows"),

@@ -9,7 +9,7 @@ use lib.ListN.{length}
 use borrow.Author.Tests.{eqb-true}
 use Rattle.rfc6386.specs.Vector.{Lowering, lumaVector, chromaVector}
 use Rattle.rfc6386.specs.Picture.{image, blockBy}
-use Rattle.rfc6386.specs.Refusal.{orElse, roomRefusal}
+use Rattle.rfc6386.specs.Refusal.{orElse, ifDone, roomRefusal}
 use Rattle.rfc6386.specs.Macroblock.{Reference, planeY, planeU, planeV, refusal, wholeSamples, splitSamples, noSamples, answered, whole, split}
 use Rattle.rfc6386.specs.Promises.{one-result}
 use Rattle.rfc6386.specs.Laws.Raster.{length-raster}
@@ -22,6 +22,12 @@ use Rattle.rfc6386.specs.declared.ReconstructedMb.{ReconstructedMb}
 use Rattle.rfc6386.specs.declared.Prediction.{Prediction}
 
 -- ---- how a call ends
+-- what is left does not depend on what a refused call would have written
+pub if-done : {A : Type 0} (n : ℕ) (o : A) {a b : A} → (n ≡ 0 → a ≡ b) → ifDone n a o ≡ ifDone n b o
+unfolding ifDone
+if-done zero o h = h refl
+if-done (suc n) o h = refl
+
 pub zeros : (n m : ℕ) → orElse n m ≡ 0 → m ≡ 0
 zeros zero m e = e
 zeros (suc n) m e = absurd (omega arith)

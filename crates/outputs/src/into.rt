@@ -1,5 +1,4 @@
 // Predictions that end in a lent output.
-ghost use mathlib.Core.Path.{_≡_};
 ghost use Rattle.rfc6386.specs.Vector.{fullPixel};
 ghost use Rattle.rfc6386.specs.Macroblock.{lent, whole, split};
 ghost use Rattle.outputs.specs.Output.{Left};

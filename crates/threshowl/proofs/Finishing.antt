@@ -25,7 +25,7 @@ use Rattle.quantisers.specs.Inner.{Offered}
 use Rattle.quantisers.specs.Keeping.{unless-alike}
 use Rattle.outputs.specs.Output.{flat, callNumber, Left}
 use Rattle.threshowl.specs.Finished.{lateNumber, Finishes, pixelsAt, quantiser, finishedBytes}
-use Rattle.outputs.specs.Laws.{Counted, has-room, zeros}
+use Rattle.outputs.specs.Laws.{if-done, Counted, has-room, zeros}
 use Rattle.rfc6386.specs.declared.Mv.{Mv}
 use Rattle.rfc6386.specs.declared.FilterSet.{FilterSet}
 use Rattle.rfc6386.specs.declared.ReconstructedMb.{ReconstructedMb}
@@ -114,11 +114,6 @@ pub finishes-as : {p q : Prediction} {codes codes′ late late′ : ℕ} {skip :
     → Finishes p codes late skip c out r out′ → Finishes q codes′ late′ skip c out r out′
 finishes-as {skip = skip} {c} {out} {r} {out′} e f g h =
     subst (λ (x : Prediction × ℕ × ℕ). Finishes (x .0) (x .1) (x .2) skip c out r out′) (λ i. (e i, f i, g i)) h
-
-if-done : {A : Type 0} (n : ℕ) (o : A) {a b : A} → (n ≡ 0 → a ≡ b) → ifDone n a o ≡ ifDone n b o
-unfolding ifDone
-if-done zero o h = h refl
-if-done (suc n) o h = refl
 
 -- a vector that leaves no fraction predicts at whole pixels
 module _ (set : FilterSet) (low : Lowering) (ref : Reference) (col row : ℕ) (v : Mv) where

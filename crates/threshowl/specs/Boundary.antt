@@ -11,6 +11,7 @@ use Rattle.vector_bytes.specs.Bytes.{vectorsOf}
 use Rattle.rfc6386.specs.declared.FilterSet.{FilterSet}
 use Rattle.rfc6386.specs.declared.FilterSet.the-variants.{Sixtap, Bilinear}
 use Rattle.rfc6386.specs.declared.Prediction.{Prediction}
+use Rattle.frame.specs.declared.Frame.{Frame}
 
 -- ---- codes
 -- a filter's code: six-tap has 0 and bilinear 1
@@ -39,3 +40,13 @@ wholeBy filter full ref mb-col mb-row row col = whole (setOf filter) (fullPixel 
 
 abbrev pub splitBy : ℕ → ℕ → Reference → ℕ → ℕ → List ℕ → Prediction
 splitBy filter full ref mb-col mb-row vectors = split (setOf filter) (fullPixel (flagOf full)) ref mb-col mb-row (vectorsOf vectors)
+
+-- a frame: the sizes and strides of its references, codes, and the strides of what is written
+abbrev pub frameOf : ℕ → ℕ → ℕ → ℕ → ℕ → ℕ → ℕ → ℕ → ℕ → ℕ → Frame
+frameOf ys us vs cols rows filter full out-ys out-us out-vs =
+    record {
+      sizes = record { «y_stride» = ys; «u_stride» = us; «v_stride» = vs; «mb_cols» = cols; «mb_rows» = rows };
+      strides = record { y = out-ys; u = out-us; v = out-vs };
+      set = setOf filter;
+      «full_pixel» = flagOf full;
+    }

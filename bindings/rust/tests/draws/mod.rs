@@ -113,3 +113,51 @@ impl Residue {
         y
     }
 }
+
+fn noise(draw: &mut Draw, len: usize) -> Vec<u8> {
+    (0..len).map(|_| draw.number() as u8).collect()
+}
+
+/// Three pictures of one size, with noise between rows: Y, U and V of each.
+pub struct Pictures {
+    pub size: Planes,
+    pub planes: [[Vec<u8>; 3]; 3],
+}
+
+impl Pictures {
+    pub fn drawn(draw: &mut Draw) -> Pictures {
+        let size = Planes::drawn(draw);
+        let planes = [(); 3].map(|()| [size.y.len(), size.u.len(), size.v.len()].map(|len| noise(draw, len)));
+        Pictures { size, planes }
+    }
+}
+
+/// A plane of a frame to write, with noise between rows and after them, and what is due in it.
+pub struct Lent {
+    pub bytes: Vec<u8>,
+    pub stride: usize,
+    due: Vec<u8>,
+    side: usize,
+}
+
+impl Lent {
+    /// For so many samples to a macroblock's side.
+    pub fn drawn(draw: &mut Draw, size: &Planes, side: usize) -> Lent {
+        let stride = size.mb_cols * side + draw.below(9);
+        let len = stride * size.mb_rows * side + draw.below(30);
+        let bytes = noise(draw, len);
+        Lent { due: bytes.clone(), bytes, stride, side }
+    }
+
+    /// The samples of a macroblock are due in its place.
+    pub fn put(&mut self, mb_col: usize, mb_row: usize, samples: &[u8]) {
+        for (row, samples) in samples.chunks_exact(self.side).enumerate() {
+            let from = (mb_row * self.side + row) * self.stride + mb_col * self.side;
+            self.due[from..from + self.side].copy_from_slice(samples);
+        }
+    }
+
+    pub fn as_due(&self) -> bool {
+        self.bytes == self.due
+    }
+}
