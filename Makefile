@@ -69,6 +69,7 @@ WARNINGS = -Wall -Wextra -Wpedantic -Werror -Wconversion -Wsign-conversion -Wsha
 AS_C = $(CC) -std=c11 $(WARNINGS) -Wstrict-prototypes -Wmissing-prototypes -O2
 AS_CXX = $(CXX) -std=c++17 $(WARNINGS) -O2
 HOST = examples/lamp_panel.c
+DRAWING = examples/drawing.h
 EXPECTED = examples/lamp_panel.expected
 FREESTANDING = tests/freestanding/host.c
 
@@ -182,11 +183,11 @@ install-check:
 clean:
 	rm -rf target
 
-target/demo/lamp_panel: $(HOST) include/threshowl.h $(ARCHIVE) | tools
+target/demo/lamp_panel: $(HOST) $(DRAWING) include/threshowl.h $(ARCHIVE) | tools
 	mkdir -p target/demo
 	$(AS_C) -Iinclude $(HOST) "$(ARCHIVE)" $(LDLIBS) -o $@
 
-target/demo/lamp_panel_cxx: $(HOST) include/threshowl.h $(ARCHIVE) | tools
+target/demo/lamp_panel_cxx: $(HOST) $(DRAWING) include/threshowl.h $(ARCHIVE) | tools
 	mkdir -p target/demo
 	$(AS_CXX) -Iinclude -x c++ $(HOST) -x none "$(ARCHIVE)" $(LDLIBS) -o $@
 
@@ -209,6 +210,7 @@ tools:
 
 # rt knows itself what has changed.
 target/staticlib/lib%.a: FORCE
+	@echo "Proving and building lib$*.a, a line for each crate: some ten minutes the first time, seconds where nothing changed."
 	rt staticlib $*
 
 rust-named:

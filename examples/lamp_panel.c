@@ -7,9 +7,11 @@
  * the right one a lit red lamp, and the middle one is predicted: whole, split
  * and merged, once with a vector that merging may fetch whole and once with one
  * just outside the range, where only a careless decoder would.  Then it is
- * predicted from the unlit lamp, and finished with a residue that lights it.  It
- * prints what differs, provokes every number that a call gives back, and writes
- * into FOLDER pictures of what the desk would see.
+ * predicted from the unlit lamp, and finished with a residue that lights it; and
+ * the whole panel is predicted at once, by an order for each macroblock, and
+ * written as a YUV4MPEG2 file.  It prints what differs, provokes every number that
+ * a call gives back, and writes into FOLDER pictures of what the desk would see,
+ * each for itself and all on one sheet.
  *
  * Exit status: 0 when all is as the header says, 1 when something is not, 2 on
  * bad usage.  Stock C11, and C++17 as well.
@@ -19,6 +21,7 @@
 #include <stdlib.h>
 #include <string.h>
 
+#include "drawing.h"
 #include "threshowl.h"
 
 enum {
@@ -42,8 +45,7 @@ enum {
     /* Each sample becomes a square of so many picture points. */
     SCALE = 10,
     PNG_WIDTH = Y_WIDTH * SCALE,
-    PNG_HEIGHT = Y_HEIGHT * SCALE,
-    PNG_ROW = 1 + 3 * PNG_WIDTH
+    PNG_HEIGHT = Y_HEIGHT * SCALE
 };
 
 typedef struct {
@@ -132,91 +134,7 @@ static void place(Picture *p, const Answer *a)
     }
 }
 
-/* ---- PNG, with its data stored and not compressed ---- */
-
-typedef struct {
-    FILE *file;
-    uint32_t crc;
-} Png;
-
-static void png_bytes(Png *png, const uint8_t *bytes, size_t n)
-{
-    size_t i;
-    int bit;
-    for (i = 0; i < n; i++) {
-        png->crc ^= bytes[i];
-        for (bit = 0; bit < 8; bit++)
-            png->crc = (png->crc >> 1) ^ ((png->crc & 1U) ? 0xEDB88320U : 0U);
-    }
-    fwrite(bytes, 1, n, png->file);
-}
-
-static void png_u32(Png *png, uint32_t n)
-{
-    const uint8_t b[4] = {(uint8_t)(n >> 24), (uint8_t)(n >> 16 & 255U), (uint8_t)(n >> 8 & 255U),
-                          (uint8_t)(n & 255U)};
-    png_bytes(png, b, sizeof b);
-}
-
-static void png_begin_chunk(Png *png, const char *name, size_t length)
-{
-    uint8_t tag[4];
-    memcpy(tag, name, sizeof tag);
-    png_u32(png, (uint32_t)length);
-    png->crc = 0xFFFFFFFFU;
-    png_bytes(png, tag, sizeof tag);
-}
-
-static void png_end_chunk(Png *png)
-{
-    png_u32(png, png->crc ^ 0xFFFFFFFFU);
-}
-
-static uint32_t adler32(const uint8_t *bytes, size_t n)
-{
-    uint32_t a = 1, b = 0;
-    size_t i;
-    for (i = 0; i < n; i++) {
-        a = (a + bytes[i]) % 65521U;
-        b = (b + a) % 65521U;
-    }
-    return b << 16 | a;
-}
-
-/* One row of the picture is one stored block: its header is the mark of the
-   last block, the row's length and that length's complement. */
-static void png_stored_row(Png *png, const uint8_t *row, int last)
-{
-    const unsigned not_length = 0xFFFFU - PNG_ROW;
-    const uint8_t head[5] = {(uint8_t)(last ? 1 : 0), PNG_ROW % 256, PNG_ROW / 256,
-                             (uint8_t)(not_length % 256U), (uint8_t)(not_length / 256U)};
-    png_bytes(png, head, sizeof head);
-    png_bytes(png, row, PNG_ROW);
-}
-
-static void png_data(Png *png, const uint8_t *rows)
-{
-    static const uint8_t zlib_head[2] = {0x78, 0x01};
-    size_t i;
-    png_begin_chunk(png, "IDAT", sizeof zlib_head + PNG_HEIGHT * (5 + PNG_ROW) + 4);
-    png_bytes(png, zlib_head, sizeof zlib_head);
-    for (i = 0; i < PNG_HEIGHT; i++)
-        png_stored_row(png, rows + i * PNG_ROW, i + 1 == PNG_HEIGHT);
-    png_u32(png, adler32(rows, (size_t)PNG_HEIGHT * PNG_ROW));
-    png_end_chunk(png);
-}
-
-static void png_header(Png *png)
-{
-    static const uint8_t signature[8] = {137, 80, 78, 71, 13, 10, 26, 10};
-    static const uint8_t eight_bit_rgb[5] = {8, 2, 0, 0, 0};
-    png_bytes(png, signature, sizeof signature);
-    png_begin_chunk(png, "IHDR", 13);
-    png_u32(png, PNG_WIDTH);
-    png_u32(png, PNG_HEIGHT);
-    png_bytes(png, eight_bit_rgb, sizeof eight_bit_rgb);
-    png_end_chunk(png);
-}
+/* ---- Pictures of it ---- */
 
 static uint8_t clip(int scaled)
 {
@@ -226,66 +144,94 @@ static uint8_t clip(int scaled)
 }
 
 /* BT.601, studio range. */
-static void to_rgb(const Picture *p, size_t x, size_t y, uint8_t *rgb)
+static Paint to_rgb(const Picture *p, size_t x, size_t y)
 {
     const size_t at = y / 2 * UV_WIDTH + x / 2;
     const int luma = 298 * (p->y[y * Y_WIDTH + x] - 16) + 128;
     const int u = p->u[at] - 128;
     const int v = p->v[at] - 128;
-    rgb[0] = clip(luma + 409 * v);
-    rgb[1] = clip(luma - 100 * u - 208 * v);
-    rgb[2] = clip(luma + 516 * u);
+    const Paint rgb = {{clip(luma + 409 * v), clip(luma - 100 * u - 208 * v), clip(luma + 516 * u)}};
+    return rgb;
 }
 
-/* Whether a picture point lies on the frame drawn round the macroblock.  Left of
-   the macroblock and above it the difference wraps, and is large. */
-static int on_frame(size_t x, size_t y)
+/* Whether a point of a picture drawn so large lies on the frame round the
+   macroblock.  Left of the macroblock and above it the difference wraps, and is
+   large. */
+static int on_frame(size_t x, size_t y, size_t scale)
 {
-    const size_t side = 16 * SCALE, thick = SCALE / 4;
+    const size_t side = 16 * scale, thick = (scale + 3) / 4;
     const size_t dx = x - MB_COL * side, dy = y - MB_ROW * side;
     if (dx >= side || dy >= side)
         return 0;
     return dx < thick || dy < thick || dx >= side - thick || dy >= side - thick;
 }
 
-static void render(const Picture *p, uint8_t *rows)
+/* The picture at column left, row top, each sample a square of so many points. */
+static void render(const Canvas *c, size_t left, size_t top, size_t scale, const Picture *p)
 {
-    static const uint8_t frame[3] = {255, 208, 0};
+    static const Paint frame = {{255, 208, 0}};
     size_t x, y;
-    for (y = 0; y < PNG_HEIGHT; y++) {
-        uint8_t *row = rows + y * PNG_ROW;
-        row[0] = 0; /* no prediction of the row from its neighbours */
-        for (x = 0; x < PNG_WIDTH; x++) {
-            if (on_frame(x, y))
-                memcpy(row + 1 + 3 * x, frame, 3);
-            else
-                to_rgb(p, x / SCALE, y / SCALE, row + 1 + 3 * x);
-        }
-    }
+    for (y = 0; y < Y_HEIGHT * scale; y++)
+        for (x = 0; x < Y_WIDTH * scale; x++)
+            point(c, left + x, top + y, on_frame(x, y, scale) ? frame : to_rgb(p, x / scale, y / scale));
 }
 
-static void write_png(const char *folder, const char *name, const Picture *p)
+static FILE *open_in(const char *folder, const char *name)
 {
-    static uint8_t rows[PNG_HEIGHT * PNG_ROW];
     char path[4096];
-    Png png = {NULL, 0};
+    FILE *file = NULL;
     const int length = snprintf(path, sizeof path, "%s/%s", folder, name);
-    int bad;
     if (length > 0 && (size_t)length < sizeof path)
-        png.file = fopen(path, "wb");
-    if (png.file == NULL) {
-        expect(0, "a picture's file can be opened");
+        file = fopen(path, "wb");
+    expect(file != NULL, "a file can be opened");
+    return file;
+}
+
+static void write_canvas(const char *folder, const char *name, const Canvas *c)
+{
+    FILE *file = open_in(folder, name);
+    if (file == NULL)
         return;
-    }
-    render(p, rows);
-    png_header(&png);
-    png_data(&png, rows);
-    png_begin_chunk(&png, "IEND", 0);
-    png_end_chunk(&png);
-    bad = ferror(png.file);
-    bad |= fclose(png.file);
-    expect(!bad, "a picture is written");
+    expect(png_write(file, c), "a picture is written");
+    expect(fclose(file) == 0, "a picture is written");
     printf("  %s\n", name);
+}
+
+/* Every picture also goes to the contact sheet, with a caption. */
+enum {
+    SHEET_COLS = 4,
+    SHEET_ROWS = 2,
+    SHEET_SCALE = 4,
+    SHEET_GAP = 8,
+    CELL_WIDTH = Y_WIDTH * SHEET_SCALE + SHEET_GAP,
+    CELL_HEIGHT = Y_HEIGHT * SHEET_SCALE + LETTER_HEIGHT + 2 * SHEET_GAP,
+    SHEET_WIDTH = SHEET_COLS * CELL_WIDTH + SHEET_GAP,
+    SHEET_HEIGHT = SHEET_ROWS * CELL_HEIGHT + SHEET_GAP
+};
+
+static uint8_t sheet_rows[SHEET_HEIGHT * (1 + 3 * SHEET_WIDTH)];
+static const Canvas sheet = {sheet_rows, SHEET_WIDTH, SHEET_HEIGHT};
+static size_t on_sheet = 0;
+
+static void add_to_sheet(const char *caption, const Picture *p)
+{
+    static const Paint ink = {{32, 32, 32}};
+    const size_t left = SHEET_GAP + on_sheet % SHEET_COLS * CELL_WIDTH;
+    const size_t top = SHEET_GAP + on_sheet / SHEET_COLS * CELL_HEIGHT;
+    on_sheet++;
+    render(&sheet, left, top, SHEET_SCALE, p);
+    text(&sheet, left, top + Y_HEIGHT * SHEET_SCALE + SHEET_GAP / 2, caption, ink);
+}
+
+static void write_png(const char *folder, const char *name, const char *caption, const Picture *p)
+{
+    static uint8_t rows[PNG_HEIGHT * (1 + 3 * PNG_WIDTH)];
+    static const Canvas canvas = {rows, PNG_WIDTH, PNG_HEIGHT};
+    static const Paint none = {{0, 0, 0}};
+    clear(&canvas, none);
+    render(&canvas, 0, 0, SCALE, p);
+    write_canvas(folder, name, &canvas);
+    add_to_sheet(caption, p);
 }
 
 /* ---- Calls of the library ---- */
@@ -408,11 +354,11 @@ static void predict_all(const Picture *p, int16_t col, Answer *answers)
     expect(strcmp(lamp_colour(&answers[SPLIT]), "red") == 0, "the lamp was sent as red");
 }
 
-static void write_shown(const char *folder, const char *name, const Picture *panel, const Answer *a)
+static void write_shown(const char *folder, const char *name, const char *caption, const Picture *panel, const Answer *a)
 {
     Picture shown = *panel;
     place(&shown, a);
-    write_png(folder, name, &shown);
+    write_png(folder, name, caption, &shown);
 }
 
 static void show_lamps(const Picture *panel, const char *folder)
@@ -426,10 +372,10 @@ static void show_lamps(const Picture *panel, const char *folder)
     expect(strcmp(lamp_colour(&outside[WHOLE]), "grey") == 0, "outside the range whole reads grey");
 
     printf("Pictures, the predicted macroblock framed:\n");
-    write_png(folder, "reference.png", panel);
-    write_shown(folder, "inside-merged.png", panel, &inside[MERGING]);
-    write_shown(folder, "outside-whole.png", panel, &outside[WHOLE]);
-    write_shown(folder, "outside-merged.png", panel, &outside[MERGING]);
+    write_png(folder, "reference.png", "THE PANEL BEFORE", panel);
+    write_shown(folder, "inside-merged.png", "INSIDE THE RANGE MERGED", panel, &inside[MERGING]);
+    write_shown(folder, "outside-whole.png", "OUTSIDE MERGED BLINDLY", panel, &outside[WHOLE]);
+    write_shown(folder, "outside-merged.png", "OUTSIDE BY THIS LIBRARY", panel, &outside[MERGING]);
 }
 
 /* ---- The lamp finished: the unlit one's prediction, and a residue that lights it ---- */
@@ -535,8 +481,85 @@ static void show_finished(const Picture *panel, const char *folder)
     print_finished("a second Y number of -4096", &c, &r, &a);
     c.out_len--;
     print_finished("and an output of 383 bytes", &c, &r, &a);
-    write_shown(folder, "predicted.png", panel, &predicted);
-    write_shown(folder, "finished.png", panel, &finished);
+    write_shown(folder, "predicted.png", "PREDICTED UNLIT", panel, &predicted);
+    write_shown(folder, "finished.png", "FINISHED BY ITS RESIDUE", panel, &finished);
+}
+
+/* ---- The panel as a frame: an order for each macroblock ---- */
+
+enum {
+    MACROBLOCKS = MB_COLS * MB_ROWS,
+    ORDERS_LEN = MACROBLOCKS * THRESHOWL_ORDER_LEN,
+    LAMP_ORDER = (MB_ROW * MB_COLS + MB_COL) * THRESHOWL_ORDER_LEN,
+    FRAME_LEN = Y_LEN + 2 * UV_LEN,
+    MARK_LEN = 6
+};
+
+/* Every macroblock stays as it was in the last picture, but for the lamp: that is
+   split, by the sixteen equal vectors that may not be merged. */
+static void write_orders(const Picture *p, uint8_t *orders)
+{
+    const Call c = good_call(p, 0, 16384);
+    memset(orders, 0, ORDERS_LEN);
+    orders[LAMP_ORDER + 1] = THRESHOWL_SPLIT;
+    sixteen(&c, orders + LAMP_ORDER + 2);
+}
+
+/* The one picture is all three references. */
+static uint32_t predict_frame(const Picture *p, const uint8_t *orders, size_t orders_len, Picture *out)
+{
+    return threshowl_predict_frame(p->y, Y_LEN, p->u, UV_LEN, p->v, UV_LEN, p->y, Y_LEN, p->u, UV_LEN,
+                                   p->v, UV_LEN, p->y, Y_LEN, p->u, UV_LEN, p->v, UV_LEN, Y_WIDTH,
+                                   UV_WIDTH, UV_WIDTH, MB_COLS, MB_ROWS, orders, orders_len,
+                                   THRESHOWL_SIXTAP, 0, out->y, Y_LEN, out->u, UV_LEN, out->v, UV_LEN,
+                                   Y_WIDTH, UV_WIDTH, UV_WIDTH);
+}
+
+/* A file of one frame, for any viewer. */
+static void write_y4m(const char *folder, const char *name, const Picture *p)
+{
+    uint8_t frame[FRAME_LEN], bytes[MARK_LEN + FRAME_LEN];
+    FILE *file = open_in(folder, name);
+    uint64_t written = 0;
+    int bad;
+    memcpy(frame, p->y, Y_LEN);
+    memcpy(frame + Y_LEN, p->u, UV_LEN);
+    memcpy(frame + Y_LEN + UV_LEN, p->v, UV_LEN);
+    expect(threshowl_y4m_write_frame(frame, sizeof frame, Y_WIDTH, Y_HEIGHT, bytes, sizeof bytes, &written)
+               == THRESHOWL_DONE && written == sizeof bytes,
+           "a frame is written as a file has it");
+    if (file == NULL)
+        return;
+    bad = fprintf(file, "YUV4MPEG2 W%d H%d F1:1 C420jpeg\n", Y_WIDTH, Y_HEIGHT) < 0;
+    bad |= fwrite(bytes, 1, sizeof bytes, file) != sizeof bytes;
+    bad |= fclose(file) != 0;
+    expect(!bad, "a film is written");
+    printf("  %s\n", name);
+}
+
+static void show_frame(const Picture *panel, const char *folder)
+{
+    static uint8_t orders[ORDERS_LEN];
+    static Picture predicted, due, kept;
+    const Call c = good_call(panel, 0, 16384);
+    Answer lamp_mb;
+    uint32_t number;
+    write_orders(panel, orders);
+    expect(split(&c, &lamp_mb) == THRESHOWL_DONE, "a good call is done");
+    due = *panel;
+    place(&due, &lamp_mb);
+    number = predict_frame(panel, orders, ORDERS_LEN, &predicted);
+    expect(memcmp(&predicted, &due, sizeof due) == 0, "a frame is what single calls give");
+    printf("The panel as a frame of %d orders, of which the lamp's is split:\n", MACROBLOCKS);
+    printf("  number %u, the lamp is %s\n", (unsigned)number, lamp_colour(&lamp_mb));
+
+    kept = predicted;
+    printf("  orders one byte short: %u\n", (unsigned)predict_frame(panel, orders, ORDERS_LEN - 1, &predicted));
+    orders[LAMP_ORDER] = THRESHOWL_ALTREF + 1;
+    printf("  a reference that is none: %u\n", (unsigned)predict_frame(panel, orders, ORDERS_LEN, &predicted));
+    expect(memcmp(&predicted, &kept, sizeof kept) == 0, "a refused frame keeps every byte");
+    write_png(folder, "frame.png", "ALL AT ONCE AS A FRAME", &predicted);
+    write_y4m(folder, "panel.y4m", &predicted);
 }
 
 /* ---- Every number, from a call made to provoke it ---- */
@@ -723,14 +746,18 @@ static void show_versions(const Picture *p)
 
 int main(int argc, char **argv)
 {
+    static const Paint paper = {{244, 244, 240}};
     static Picture panel;
     if (argc != 2) {
         fprintf(stderr, "usage: lamp_panel FOLDER\n");
         return 2;
     }
     paint_panel(&panel);
+    clear(&sheet, paper);
     show_lamps(&panel, argv[1]);
     show_finished(&panel, argv[1]);
+    show_frame(&panel, argv[1]);
+    write_canvas(argv[1], "contact-sheet.png", &sheet);
     show_numbers(&panel);
     show_versions(&panel);
     printf(failures ? "Something is not as it should be.\n" : "All is as it should be.\n");
