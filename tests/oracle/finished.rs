@@ -183,12 +183,7 @@ fn coefficients_of(
             let coefficients = given(draw(random), quantiser);
             let (filter, flag) = (random.below(2) as u8, random.below(2) as u8);
             let call = Call::on(&picture, at, vectors(form, random), filter, flag);
-            let residue = Residue {
-                coefficients: &coefficients,
-                count: form.count(),
-                skip: 0,
-                quantiser,
-            };
+            let residue = Residue::of(form, &coefficients, 0, quantiser);
             compare(form, &call, &residue, &mut tally);
         }
     }
@@ -210,12 +205,7 @@ fn every_skip(what: Given, form: Finish, random: &mut Random) -> Tally {
             };
             let at = (random.below(2), random.below(2));
             let call = Call::on(&picture, at, vectors(form, random), 0, 0);
-            let residue = Residue {
-                coefficients: &coefficients,
-                count: form.count(),
-                skip,
-                quantiser,
-            };
+            let residue = Residue::of(form, &coefficients, skip, quantiser);
             compare(form, &call, &residue, &mut tally);
         }
     }
@@ -236,12 +226,7 @@ fn every_limit(what: Given, form: Finish, random: &mut Random) -> Tally {
             let mut coefficients = given(small(random), quantiser);
             coefficients[i] = value as i16;
             let call = Call::on(&picture, (random.below(2), 0), vectors(form, random), 0, 1);
-            let residue = Residue {
-                coefficients: &coefficients,
-                count: form.count(),
-                skip: 0,
-                quantiser,
-            };
+            let residue = Residue::of(form, &coefficients, 0, quantiser);
             // What Y2 replaces is not looked at.
             let replaced = first == 0 && (Y2..272).contains(&i) && i % 16 == 0;
             if value.abs() <= most || replaced {
@@ -352,12 +337,7 @@ fn every_index(form: Finish, random: &mut Random) -> Tally {
                 let quantiser = Some(Quantiser { base, deltas });
                 let coefficients = given(sparse(random), quantiser);
                 let call = Call::on(&picture, (random.below(2), 0), vectors(form, random), 0, 0);
-                let residue = Residue {
-                    coefficients: &coefficients,
-                    count: form.count(),
-                    skip: 0,
-                    quantiser,
-                };
+                let residue = Residue::of(form, &coefficients, 0, quantiser);
                 compare(form, &call, &residue, &mut tally);
             }
         }

@@ -103,6 +103,23 @@ pub struct Residue<'a> {
     pub quantiser: Option<Quantiser>,
 }
 
+impl<'a> Residue<'a> {
+    /// As many numbers as the form takes.
+    pub fn of(
+        form: Finish,
+        coefficients: &'a Coefficients,
+        skip: u8,
+        quantiser: Option<Quantiser>,
+    ) -> Residue<'a> {
+        Residue {
+            coefficients,
+            count: form.count(),
+            skip,
+            quantiser,
+        }
+    }
+}
+
 #[rustfmt::skip]
 extern "C" {
     fn threshowl_reconstruct_whole(
