@@ -2,8 +2,8 @@
 //! and what is written is lent alone; beyond that the C functions take every value.
 //!
 //! A further function of the header is declared here, and offered by the module that it belongs to: predictions by `prediction`,
-//! that of a frame by `frame`, those that add the residue by `reconstruction`, and the first and the last under the original's name by `motion_comp` where it has one. A
-//! prediction is one entry of `predictions!`.
+//! that of a frame by `frame`, those that add the residue by `reconstruction`, and the first and the last under the original's
+//! name by `motion_comp` where it has one. A prediction is one entry of `predictions!`.
 
 use crate::frame::{Frame, References};
 use crate::motion_vector::Mv;
