@@ -8,6 +8,7 @@
 #   make mirror             flip pictures and vectors, and compare the answers
 #   make versions           every version number, on good input and with faults
 #   make quarters           merging by quarters beside split, and with faults
+#   make report             samples fetched, counted another way
 #   make frames             whole frames beside single calls, and with faults
 #   make frame-bench        a frame's time beside that of single calls
 #   make programs           the programs for people, in target/programs
@@ -43,7 +44,7 @@
 # RUSTC=..., see tests/x86-64.sh; the benchmark times a library made for that
 # processor, see bench/native-archive.
 
-VERSION = 0.7.0
+VERSION = 0.8.0
 PREFIX = /usr/local
 DESTDIR =
 ARCHIVE = target/staticlib/libthreshowl.a
@@ -73,7 +74,7 @@ DRAWING = examples/drawing.h
 EXPECTED = examples/lamp_panel.expected
 FREESTANDING = tests/freestanding/host.c
 
-.PHONY: demo demo-check check mirror versions quarters frames frame-bench oracle bench install install-check clean tools rust-named FORCE
+.PHONY: demo demo-check check mirror versions quarters report frames frame-bench oracle bench install install-check clean tools rust-named FORCE
 .PHONY: bindings-check libvpx-check programs tools-check freestanding ivf-evidence ivf-bench y4m-evidence y4m-bench rfc-version3 rfc-transforms rfc-factors rfc-named
 
 demo: target/demo/lamp_panel
@@ -94,6 +95,9 @@ mirror: target/mirror/mirror
 
 versions: target/versions/versions
 	$(EMULATOR) target/versions/versions $(SEED)
+
+report: target/report/report
+	$(EMULATOR) target/report/report $(SEED)
 
 quarters: target/quarters/quarters
 	$(EMULATOR) target/quarters/quarters $(SEED)
@@ -197,7 +201,7 @@ target/freestanding/host: $(FREESTANDING) include/threshowl.h $(ARCHIVE) | tools
 	    -Wl,--whole-archive "$(ARCHIVE)" -Wl,--no-whole-archive -o $@
 
 # The driver NAME is tests/NAME/NAME.c.
-target/mirror/mirror target/versions/versions target/quarters/quarters target/frame/frame: target/%: tests/%.c tests/draw.h include/threshowl.h $(ARCHIVE) | tools
+target/mirror/mirror target/versions/versions target/quarters/quarters target/report/report target/frame/frame: target/%: tests/%.c tests/draw.h include/threshowl.h $(ARCHIVE) | tools
 	mkdir -p $(@D)
 	$(AS_C) -Iinclude $< "$(ARCHIVE)" $(LDLIBS) -o $@
 

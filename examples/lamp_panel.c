@@ -378,6 +378,52 @@ static void show_lamps(const Picture *panel, const char *folder)
     write_shown(folder, "outside-merged.png", "OUTSIDE BY THIS LIBRARY", panel, &outside[MERGING]);
 }
 
+/* ---- Samples fetched ---- */
+
+enum { KINDS = 4 };
+
+static const char *const kinds[KINDS] = {"whole", "split", "merging", "quarters"};
+
+static void print_fetched(const char *words, const Call *c, const uint8_t *vectors)
+{
+    const Picture *p = c->picture;
+    uint64_t fetched[KINDS];
+    uint8_t kind;
+    printf("  %-36s", words);
+    for (kind = 0; kind < KINDS; kind++) {
+        Answer a;
+        const uint32_t number = threshowl_predict_report(
+            p->y, c->y_len, p->u, c->u_len, p->v, c->v_len, c->y_stride, c->u_stride, c->v_stride,
+            c->mb_cols, c->mb_rows, c->mb_col, c->mb_row, vectors, c->vectors_len, kind, c->filter,
+            c->full_pixel, a.bytes, c->out_len, &fetched[kind]);
+        expect(number == THRESHOWL_DONE, "a good call is done");
+        printf(" %8u", (unsigned)fetched[kind]);
+    }
+    printf("\n");
+    expect(fetched[2] <= fetched[1] && fetched[3] <= fetched[1], "no merging fetches more than split");
+}
+
+static void show_fetched(const Picture *p)
+{
+    Call c = good_call(p, 0, 16383);
+    uint8_t vectors[THRESHOWL_VECTORS_LEN];
+    size_t i;
+    printf("Samples fetched for the lamp:\n");
+    printf("  %-36s", "");
+    for (i = 0; i < KINDS; i++)
+        printf(" %8s", kinds[i]);
+    printf("\n");
+    sixteen(&c, vectors);
+    print_fetched("column 16383 sixteen times", &c, vectors);
+    put_i16(vectors + THRESHOWL_VECTORS_LEN - 4, 4);
+    print_fetched("and a last vector that differs", &c, vectors);
+    c.full_pixel = 1;
+    print_fetched("the same at whole pixels", &c, vectors);
+    c = good_call(p, 0, 16384);
+    sixteen(&c, vectors);
+    print_fetched("column 16384, which has no fraction", &c, vectors);
+}
+
 /* ---- The lamp finished: the unlit one's prediction, and a residue that lights it ---- */
 
 typedef struct {
@@ -755,6 +801,7 @@ int main(int argc, char **argv)
     paint_panel(&panel);
     clear(&sheet, paper);
     show_lamps(&panel, argv[1]);
+    show_fetched(&panel);
     show_finished(&panel, argv[1]);
     show_frame(&panel, argv[1]);
     write_canvas(argv[1], "contact-sheet.png", &sheet);

@@ -128,8 +128,9 @@ enum {
        like it from levels. */
     THRESHOWL_FRACTION_LEFT = 8,
 
-    /* orders_len is not 66 * mb_cols * mb_rows, or a code in the orders is none.
-       threshowl_predict_frame alone gives this number. */
+    /* orders_len is not 66 * mb_cols * mb_rows, or a code in the orders is none;
+       or there is no such kind of prediction.  threshowl_predict_frame and
+       threshowl_predict_report alone give this number. */
     THRESHOWL_BAD_ORDERS = 9,
 
     /* version is above 3, whatever else is at fault.  The functions by version
@@ -204,6 +205,26 @@ uint32_t threshowl_predict_quarters(
     const uint8_t *vectors, size_t vectors_len,
     uint8_t filter, uint8_t full_pixel,
     uint8_t *out, size_t out_len);
+
+/*
+ * A prediction that also says how many samples it fetched from the three planes:
+ * a block of n samples a side fetches n * n where its vector has no fraction, else
+ * (n + 5) * (n + 5).  kind 0 is whole, by the first vector, 1 split, 2 merging, and
+ * 3 by quarters; any other gives 9, after all else.  Whole fetches 384 to 779,
+ * split 384 to 1944, the other two at most what split does, and with full_pixel all
+ * of them 384.  *fetched is always set, to 0 where the call refuses.
+ */
+uint32_t threshowl_predict_report(
+    const uint8_t *y, size_t y_len,
+    const uint8_t *u, size_t u_len,
+    const uint8_t *v, size_t v_len,
+    size_t y_stride, size_t u_stride, size_t v_stride,
+    size_t mb_cols, size_t mb_rows,
+    size_t mb_col, size_t mb_row,
+    const uint8_t *vectors, size_t vectors_len,
+    uint8_t kind, uint8_t filter, uint8_t full_pixel,
+    uint8_t *out, size_t out_len,
+    uint64_t *fetched);
 
 /*
  * Whole prediction with the table and the rule of a frame's version.  Gives 10,

@@ -117,6 +117,13 @@ static int quarters(void)
     return predicted(threshowl_predict_quarters(PICTURE, VECTORS, THRESHOWL_BILINEAR, 0, out, sizeof out));
 }
 
+static int report(void)
+{
+    uint64_t fetched = 0;
+    return predicted(threshowl_predict_report(PICTURE, VECTORS, 2, THRESHOWL_BILINEAR, 0, out, sizeof out, &fetched)) &&
+           fetched >= 384;
+}
+
 static int whole_by_version(void)
 {
     return predicted(threshowl_predict_whole_by_version(PICTURE, 0, COL, 1, 0, out, sizeof out));
@@ -274,7 +281,7 @@ static int frame(void)
 
 /* ---- Where the program begins and ends (Linux, x86-64) ---- */
 
-static int (*const calls[])(void) = {whole, split, merging, quarters, whole_by_version, split_by_version, predict_frame,
+static int (*const calls[])(void) = {whole, split, merging, quarters, report, whole_by_version, split_by_version, predict_frame,
                                     reconstruct_whole, reconstruct_split, reconstruct_whole_pixel,
                                     reconstruct_whole_from_levels, reconstruct_whole_pixel_from_levels,
                                     reconstruct_split_from_levels, mend, header, frame};

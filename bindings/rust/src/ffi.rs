@@ -10,15 +10,16 @@ use crate::motion_vector::Mv;
 use crate::prediction::{Picture, Position};
 use crate::reconstruction::QuantIndices;
 
-/// A prediction has the picture and the position before what is its own, and the output after that.
+/// A prediction has the picture and the position before what is its own, and the output after that; what it reports comes last.
 macro_rules! predictions {
-    ($($name:ident($($given:ident: $type:ty),*) = $symbol:ident($($handed:expr => $c:ty),*);)*) => {
+    ($($name:ident($($given:ident: $type:ty),*) = $symbol:ident($($handed:expr => $c:ty),*)
+        $(reports $($told:expr => $t:ty),*)?;)*) => {
         extern "C" {
             $(fn $symbol(
                 y: *const u8, y_len: usize, u: *const u8, u_len: usize, v: *const u8, v_len: usize,
                 y_stride: usize, u_stride: usize, v_stride: usize,
                 mb_cols: usize, mb_rows: usize, mb_col: usize, mb_row: usize,
-                $(_: $c,)* out: *mut u8, out_len: usize,
+                $(_: $c,)* out: *mut u8, out_len: usize, $($(_: $t,)*)?
             ) -> u32;)*
         }
         $(pub(crate) fn $name(picture: &Picture<'_>, at: Position, $($given: $type,)* out: &mut [u8; 384]) -> u32 {
@@ -29,7 +30,7 @@ macro_rules! predictions {
                     y.as_ptr(), y.len(), u.as_ptr(), u.len(), v.as_ptr(), v.len(),
                     picture.y_stride, picture.u_stride, picture.v_stride,
                     picture.mb_cols, picture.mb_rows, at.mb_col, at.mb_row,
-                    $($handed,)* out.as_mut_ptr(), out.len(),
+                    $($handed,)* out.as_mut_ptr(), out.len(), $($($told,)*)?
                 )
             }
         })*
@@ -49,6 +50,9 @@ predictions! {
         vectors.as_ptr() => *const u8, vectors.len() => usize, codes[0] => u8, codes[1] => u8);
     quarters(vectors: &[u8; 64], codes: [u8; 2]) = threshowl_predict_quarters(
         vectors.as_ptr() => *const u8, vectors.len() => usize, codes[0] => u8, codes[1] => u8);
+    report(vectors: &[u8; 64], codes: [u8; 3], fetched: &mut u64) = threshowl_predict_report(
+        vectors.as_ptr() => *const u8, vectors.len() => usize, codes[0] => u8, codes[1] => u8, codes[2] => u8)
+        reports fetched => *mut u64;
     finished_whole(mv: Mv, codes: [u8; 3], numbers: &[i16]) = threshowl_reconstruct_whole(
         mv.row => i16, mv.col => i16, codes[0] => u8, codes[1] => u8, codes[2] => u8,
         numbers.as_ptr() => *const i16, numbers.len() => usize);

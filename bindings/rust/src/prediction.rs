@@ -1,4 +1,4 @@
-//! Prediction with refusals as values: whole, split, merging and by quarters, and by a frame's version.
+//! Prediction with refusals as values: whole, split, merging and by quarters, with a report of what it took, and by a frame's version.
 //!
 //! A [`Picture`] has a stride for each plane. The numbers 5, 6 and 7 of the C header are never given: the types rule them out.
 
@@ -192,6 +192,64 @@ pub fn predict_quarters(
     full_pixel: bool,
 ) -> Result<ReconstructedMb, Refusal> {
     written(|out| ffi::quarters(picture, at, &bytes_of(mvs), [filter.code(), full_pixel.into()], out))
+}
+
+/// Which prediction a report is of.
+#[derive(Debug, Clone, Copy, PartialEq, Eq, Hash)]
+pub enum Kind {
+    /// [`predict_whole`], by the first vector.
+    Whole,
+    /// [`predict_split`].
+    Split,
+    /// [`predict_merging`].
+    Merging,
+    /// [`predict_quarters`].
+    Quarters,
+}
+
+/// A prediction, and what it took.
+#[derive(Debug, Clone, PartialEq, Eq)]
+pub struct Report {
+    /// The samples.
+    pub mb: ReconstructedMb,
+    /// How many samples were fetched from the three planes, one that is fetched twice counted twice.
+    pub fetched: u64,
+}
+
+/// A prediction with a report: a block of n samples a side fetches n * n where its vector has no fraction, else (n + 5) * (n + 5).
+///
+/// Whole fetches 384 to 779, split 384 to 1944, the other two no more than split, and with `full_pixel` all of them 384. Refuses
+/// with 1 to 4.
+///
+/// ```
+/// # use threshowl::motion_vector::Mv;
+/// # use threshowl::prediction::{predict_report, Kind, Picture, Position};
+/// # use threshowl::tables::FilterSet;
+/// # let luma: Vec<u8> = (0..=255).collect();
+/// # let chroma: Vec<u8> = (0..64).collect();
+/// # let picture = Picture {
+/// #     y: &luma, u: &chroma, v: &chroma, y_stride: 16, u_stride: 8, v_stride: 8, mb_cols: 1, mb_rows: 1,
+/// # };
+/// # let first = Position { mb_col: 0, mb_row: 0 };
+/// let mvs = [Mv { row: 3, col: -5 }; 16];
+/// let split = predict_report(&picture, first, &mvs, Kind::Split, FilterSet::Sixtap, false)?;
+/// let merged = predict_report(&picture, first, &mvs, Kind::Merging, FilterSet::Sixtap, false)?;
+/// assert_eq!((split.fetched, merged.fetched), (1944, 779));
+/// assert_eq!(split.mb, merged.mb);
+/// # Ok::<(), threshowl::Refusal>(())
+/// ```
+pub fn predict_report(
+    picture: &Picture<'_>,
+    at: Position,
+    mvs: &[Mv; 16],
+    kind: Kind,
+    filter: FilterSet,
+    full_pixel: bool,
+) -> Result<Report, Refusal> {
+    let mut fetched = 0;
+    let codes = [kind as u8, filter.code(), full_pixel.into()];
+    let mb = written(|out| ffi::report(picture, at, &bytes_of(mvs), codes, &mut fetched, out))?;
+    Ok(Report { mb, fetched })
 }
 
 /// Whole prediction with the table and the rule of a frame's version, as it stands in the frame's tag.

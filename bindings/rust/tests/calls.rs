@@ -7,8 +7,8 @@ use std::panic::catch_unwind;
 use threshowl::motion_comp::{predict_inter_mb, predict_inter_mb_whole_pixel, predict_split_mv, ReferencePlanes};
 use threshowl::motion_vector::Mv;
 use threshowl::prediction::{
-    predict_merging, predict_quarters, predict_split, predict_split_by_version, predict_whole, predict_whole_by_version,
-    FullPixel, Picture, Position,
+    predict_merging, predict_quarters, predict_report, predict_split, predict_split_by_version, predict_whole,
+    predict_whole_by_version, FullPixel, Kind, Picture, Position,
 };
 use threshowl::reconstruct::ReconstructedMb;
 use threshowl::tables::FilterSet;
@@ -104,6 +104,12 @@ fn the_calls_agree() {
         assert_eq!(split, predict_quarters(&picture, at, &mvs, set, full).unwrap());
         assert_eq!(split, predict_split_mv(&lent, at.mb_col, at.mb_row, &mvs, full, set.taps()));
         assert_eq!(whole, predict_inter_mb(&lent, at.mb_col, at.mb_row, mvs[0], full, set.taps()));
+        for (kind, due) in [(Kind::Whole, whole), (Kind::Split, split), (Kind::Merging, split), (Kind::Quarters, split)] {
+            let report = predict_report(&picture, at, &mvs, kind, set, full).unwrap();
+            assert_eq!(report.mb, due);
+            assert!((384..=1944).contains(&report.fetched));
+            assert!(report.fetched == 384 || !full);
+        }
         let near = |z: i16| (-16384..=16383).contains(&z);
         if mvs == [mvs[0]; 16] && near(mvs[0].row) && near(mvs[0].col) {
             assert_eq!(split, whole);
@@ -151,6 +157,9 @@ fn each_fault_has_its_refusal() {
             assert_eq!(predict_split(&picture, at, &mvs, set, true), Err(due));
             assert_eq!(predict_merging(&picture, at, &mvs, set, false), Err(due));
             assert_eq!(predict_quarters(&picture, at, &mvs, set, false), Err(due));
+            for kind in [Kind::Whole, Kind::Split, Kind::Merging, Kind::Quarters] {
+                assert_eq!(predict_report(&picture, at, &mvs, kind, set, false), Err(due));
+            }
         }
         for mode in [FullPixel::LumaAndChroma, FullPixel::ChromaAlone] {
             assert_eq!(predict_whole_by_version(&picture, at, mvs[0], 3, mode), Err(due));

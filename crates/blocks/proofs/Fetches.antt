@@ -1,15 +1,19 @@
--- Calls on one plane: where a square starts, and what is known of it. Assumes nothing.
-use mathlib.Core.Path.{_≡_, ap, _∙_}
+-- Calls on one plane: where a square starts, what is known of it, and what the call answers. Assumes nothing.
+use mathlib.Core.Path.{_≡_, sym, ap, _∙_}
+use mathlib.Core.List.{List}
 use Prim.Native.Nat.{ℕ, _^_, _<_, _≤_}
 use native.Mathlib.Omega.{arith}
 use lib.IntN.{ℤ, pos, _+ℤ_}
+use lib.ListN.{replicate}
 use lib.Signed.{mag}
 use mir.Syntax.{w16, w64}
 use mir.Val.{hbits, toZ, ofZ}
 use Rattle.signed.specs.Held.{Within, Held, got, named, better, add-within, shr-within}
 use Rattle.rfc6386.specs.Vector.{wholePart}
 use Rattle.rfc6386.specs.Picture.{Plane}
-use Rattle.rfc6386.specs.Laws.Refusals.{PlaneAccepts}
+use Rattle.rfc6386.specs.Refusal.{ifDone}
+use Rattle.rfc6386.specs.Block.{shown}
+use Rattle.rfc6386.specs.Laws.Refusals.{PlaneAccepts, done, refused}
 use Rattle.blocks.specs.Places.{Source}
 use Rattle.blocks.proofs.Squares.{source-as}
 
@@ -44,3 +48,17 @@ module _ {p : Plane} {x y : ℕ} where
         near-x = omega arith;
         near-y = omega arith;
       })
+
+-- ---- what a fetch answers, by its number n: so many samples and a count, or zeros
+module _ {A : Type 0} (answer : ℕ → List ℕ → ℕ → A) (count : ℕ) {n m : ℕ} (e : n ≡ m) (s : List ℕ) (fetched : ℕ) where
+  pub answer-refused : (n ≡ 0 → ⊥) → answer n (replicate count 0) 0 ≡ answer m (shown count m s) (ifDone m fetched 0)
+  answer-refused h =
+      let z = refused s (replicate count 0) (λ k. h (e ∙ k)) in
+      let f = refused fetched 0 (λ k. h (e ∙ k)) in
+      λ i. answer (e i) (sym z i) (sym f i)
+
+  pub answer-done : n ≡ 0 → {l : List ℕ} {k : ℕ} → l ≡ s → k ≡ fetched → answer n l k ≡ answer m (shown count m s) (ifDone m fetched 0)
+  answer-done h p q =
+      let z = done s (replicate count 0) (sym e ∙ h) in
+      let f = done fetched 0 (sym e ∙ h) in
+      λ i. answer (e i) ((p ∙ sym z) i) ((q ∙ sym f) i)

@@ -14,9 +14,9 @@ use Rattle.rfc6386.specs.Number.{clamped}
 use Rattle.rfc6386.specs.Raster.{raster, written}
 use Rattle.rfc6386.specs.Picture.{Plane, Image, image, square}
 use Rattle.rfc6386.specs.Laws.Refusals.{Fits}
-use Rattle.rfc6386.specs.Laws.Raster.{row-fits, raster-ext, within-true, getD-written}
-use Rattle.steps.specs.Rows.{laid, Room}
-use Rattle.steps.specs.Window.{windowList}
+use Rattle.rfc6386.specs.Laws.Raster.{row-fits, raster-ext, length-raster, getD-raster, within-true, getD-written, written-ext}
+use Rattle.steps.specs.Rows.{laid}
+use Rattle.steps.specs.Window.{windowList, putAt}
 use Rattle.blocks.specs.Places.{Inside, Lies, Source, clampedRow, clampedRect}
 use Rattle.steps.specs.Laws.Copying.{Writing, writing-more}
 
@@ -83,6 +83,13 @@ module _ {p : Plane} {x y : ℤ} {n i j : ℕ} (F : Fits p) (X : Lies x n (p .wi
   unfolding windowList
   near-is = plain-is
 
--- ---- a square of n by n, whole
-pub square-room : {count n : ℕ} → 1 ≤ n → count ≡ n * n → Room count n 0 0 n n
-square-room {count} {n} h e = record { some = h; across = omega arith; down = λ r l. omega (arith, row-fits r n n l) }
+-- ---- a rectangle of n by n samples put in place, by the square that they are
+pub put-square : (out : List ℕ) (stride x y n : ℕ) (f : ℕ → ℕ → ℕ) {o l : List ℕ} → o ≡ written out stride x y n n f → raster n n f ≡ l → o ≡ putAt out stride x y n l
+put-square out stride x y n f {l = l} e h =
+    e
+    ∙ written-ext out stride x y n n _ _
+    (λ r c hr hc. sym (getD-raster n n f r c hr hc) ∙ ap (λ (l : List ℕ). getD l (r * n + c) 0) h ∙ ap (λ (i : ℕ). getD l i 0) (omega arith))
+
+pub square-size : (n : ℕ) (img : Image) (x y : ℤ) → length (square n img x y) ≡ n * n
+unfolding square
+square-size n img x y = length-raster n n _

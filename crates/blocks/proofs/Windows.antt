@@ -1,17 +1,21 @@
 -- What the filters make of a window that is a block's halo is the block, near and far. Assumes nothing.
-use mathlib.Core.Path.{_≡_, sym, ap, _∙_, subst}
-use mathlib.Core.List.{List}
+use mathlib.Core.Path.{_≡_, sym, ap, ap₂, _∙_, subst}
+use mathlib.Core.Bool.{Bool, true, false, cond}
+use mathlib.Core.List.{List, _++_}
 use Prim.Native.Nat.{ℕ, _+_, _*_, _<_}
 use native.Mathlib.Omega.{arith}
-use lib.ListN.{length, getD}
-use Rattle.rfc6386.specs.Vector.{fraction}
+use lib.IntN.{ℤ}
+use lib.ListN.{length, length-append, getD}
+use Rattle.rfc6386.specs.Vector.{fraction, isWhole}
 use Rattle.rfc6386.specs.Raster.{raster}
-use Rattle.rfc6386.specs.Picture.{Image, image, square, block, pixels, halo, haloBlock}
+use Rattle.rfc6386.specs.Picture.{Plane, Image, image, square, block, pixels, halo, haloBlock}
+use Rattle.rfc6386.specs.Fetched.{Coordinate, squareOf, pixelsOf, haloOf, blockOf}
 use Rattle.rfc6386.specs.Laws.Raster.{length-raster}
 use Rattle.rfc6386.specs.Laws.Refusals.{PlaneAccepts}
 use Rattle.rfc6386.specs.Laws.Samples.{Bytes}
 use Rattle.rfc6386.specs.Laws.Vectors.{fraction-under}
 use Rattle.rfc6386.specs.Laws.Halos.{filtered-block}
+use Rattle.rfc6386.specs.Laws.Fetched.{length-square}
 use Rattle.rfc6386.specs.declared.Mv.{Mv}
 use Rattle.rfc6386.specs.declared.FilterSet.{FilterSet}
 use Rattle.steps.specs.Rows.{Held}
@@ -82,3 +86,20 @@ module _ (u v : List ℕ) (uw vw : Window) (way : Way) {s : List ℕ} (S : Strip
   right-block =
       window-block 8 (way .set) v (vw .at) (vw .pitch) (way .mx) (way .my) _
       (λ r c hr hc. ap (λ (i : ℕ). getD s i 0) (omega arith) ∙ S .right r hr c hc)
+
+-- ---- what a block fetches, k samples: its pixels where the vector has no fraction, else its halo
+module _ (n : ℕ) (p : Plane) (x y : ℕ) (v : Mv) {k : ℕ} where
+  pub fetched-pixels : isWhole v ≡ true → k ≡ length (pixelsOf n p x y v) → k ≡ length (blockOf n p x y v)
+  unfolding blockOf
+  fetched-pixels e h = h ∙ sym (ap (λ (b : Bool). length (cond b (pixelsOf n p x y v) (haloOf n p x y v))) e)
+
+  pub fetched-halo : isWhole v ≡ false → k ≡ length (haloOf n p x y v) → k ≡ length (blockOf n p x y v)
+  unfolding blockOf
+  fetched-halo e h = h ∙ sym (ap (λ (b : Bool). length (cond b (pixelsOf n p x y v) (haloOf n p x y v))) e)
+
+-- and two blocks, one of each chroma plane; squares of one side fetch alike
+pub fetched-both : (l m : List Coordinate) {a b : ℕ} → a ≡ length l → b ≡ length m → a + b ≡ length (l ++ m)
+fetched-both l m e h = ap₂ _+_ e h ∙ sym (length-append l m)
+
+pub fetched-alike : (n w h w′ h′ : ℕ) (x y x′ y′ : ℤ) → length (squareOf n w h x y) ≡ length (squareOf n w′ h′ x′ y′)
+fetched-alike n w h w′ h′ x y x′ y′ = length-square n w h x y ∙ sym (length-square n w′ h′ x′ y′)

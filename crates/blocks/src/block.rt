@@ -3,6 +3,7 @@ ghost use mathlib.Core.Path.{_≡_};
 ghost use lib.ListN.{length};
 ghost use Rattle.rfc6386.specs.Vector as vector;
 ghost use Rattle.rfc6386.specs.Picture as picture;
+ghost use Rattle.rfc6386.specs.Fetched.{blockOf};
 ghost use Rattle.rfc6386.specs.Block.{planeOf, block4, Into};
 ghost use Rattle.steps.specs.Rows.{Room};
 ghost use Rattle.steps.specs.Window.{put};
@@ -40,16 +41,18 @@ pub fn way_of(mv: Mv, set: FilterSet) -> Way
     }
 }
 
-// A block of 4 samples a side, put into a rectangle of out.
-pub fn tile_into(plane: &[u8], at: Place, mv: Mv, set: FilterSet, out: &mut [u8], spot: Spot)
+// A block of 4 samples a side, put into a rectangle of out; gives how many samples it fetched.
+pub fn tile_into(plane: &[u8], at: Place, mv: Mv, set: FilterSet, out: &mut [u8], spot: Spot) -> u64
     requires { ⌜ Accepted (now plane) at ⌝ }
     requires { ⌜ Room (length (now out)) (spot .stride) (spot .x) (spot .y) 4 4 ⌝ }
     ensures { λ _. ⌜ now (out .exit) ≡ put (now (out .entry)) spot 4 (picture.block 4 set (picture.image (planeAt (now (plane .entry)) at)) (at .x) (at .y) mv) ⌝ }
+    ensures { λ r. ⌜ r ≡ length (blockOf 4 (planeAt (now (plane .entry)) at) (at .x) (at .y) mv) ⌝ }
 {
     if whole_pixel_fraction_is_zero(mv) {
-        let block = pixels_of_4(plane, at, mv);
+        let mut fetched: u64 = 0;
+        let block = pixels_of_4(plane, at, mv, &mut fetched);
         copy_rect(out, spot, 4, 4, &block, Window { at: 0, pitch: 4 });
-        return;
+        return fetched;
     }
     let way = way_of(mv, set);
     let found = find(at, mv, 9);
@@ -59,10 +62,12 @@ pub fn tile_into(plane: &[u8], at: Place, mv: Mv, set: FilterSet, out: &mut [u8]
             pitch: at.stride,
         };
         filter_tile(plane, from, way, out, spot);
-        return;
+        return found.fetched;
     }
-    let halo = halo_of_4(plane, at, mv);
+    let mut fetched: u64 = 0;
+    let halo = halo_of_4(plane, at, mv, &mut fetched);
     filter_tile(&halo, Window { at: 0, pitch: 9 }, way, out, spot);
+    fetched
 }
 
 pub fn block_of_4(plane: &[u8], at: Place, mv: Mv, set: FilterSet) -> [u8; 16]
@@ -85,23 +90,25 @@ pub fn block_of_4(plane: &[u8], at: Place, mv: Mv, set: FilterSet) -> [u8; 16]
     out
 }
 
-pub fn block_of_16(plane: &[u8], at: Place, mv: Mv, set: FilterSet) -> [u8; 256]
+pub fn block_of_16(plane: &[u8], at: Place, mv: Mv, set: FilterSet, fetched: &mut u64) -> [u8; 256]
     requires { ⌜ Accepted (now plane) at ⌝ }
     ensures { λ r. ⌜ r ≡ picture.block 16 set (picture.image (planeAt (now (plane .entry)) at)) (at .x) (at .y) mv ⌝ }
+    ensures { λ _. ⌜ now (fetched .exit) ≡ length (blockOf 16 (planeAt (now (plane .entry)) at) (at .x) (at .y) mv) ⌝ }
 {
     if whole_pixel_fraction_is_zero(mv) {
-        return pixels_of_16(plane, at, mv);
+        return pixels_of_16(plane, at, mv, fetched);
     }
     let way = way_of(mv, set);
     let found = find(at, mv, 21);
     if found.near {
+        *fetched = found.fetched;
         let from = Window {
             at: found.y * at.stride + found.x,
             pitch: at.stride,
         };
         return filter_wide(plane, from, way);
     }
-    let halo = halo_of_16(plane, at, mv);
+    let halo = halo_of_16(plane, at, mv, fetched);
     filter_wide(&halo, Window { at: 0, pitch: 21 }, way)
 }
 

@@ -1,9 +1,13 @@
 // The two chroma planes of a macroblock together: they have one vector, and side by side they fill vectors of the processor.
 ghost use mathlib.Core.Path.{_≡_};
+ghost use mathlib.Core.Bool.{false};
+ghost use mathlib.Core.List.{_++_};
 ghost use Prim.Native.Nat.{_+_, _*_};
 ghost use lib.ListN.{length, getD};
 ghost use Rattle.rfc6386.specs.Raster.{raster};
+ghost use Rattle.rfc6386.specs.Vector.{isWhole};
 ghost use Rattle.rfc6386.specs.Picture as picture;
+ghost use Rattle.rfc6386.specs.Fetched.{blockOf};
 ghost use Rattle.steps.specs.Rows.{Room};
 ghost use Rattle.steps.specs.Window.{put, beside};
 ghost use Rattle.blocks.specs.Places.{planeAt, Accepted, Alike};
@@ -45,16 +49,30 @@ fn apart(strips: &[u8; 128]) -> Chroma
 }
 
 // The blocks of 8 samples a side.
-pub fn blocks_of_8(u: &[u8], u_at: Place, v: &[u8], v_at: Place, mv: Mv, set: FilterSet) -> Chroma
+pub fn blocks_of_8(
+    u: &[u8],
+    u_at: Place,
+    v: &[u8],
+    v_at: Place,
+    mv: Mv,
+    set: FilterSet,
+    fetched: &mut u64,
+) -> Chroma
     requires { ⌜ Accepted (now u) «u_at» ⌝ }
     requires { ⌜ Accepted (now v) «v_at» ⌝ }
     requires { ⌜ Alike «u_at» «v_at» ⌝ }
     ensures { λ r. ⌜ r ≡ record { u = picture.block 8 set (picture.image (planeAt (now (u .entry)) «u_at»)) («u_at» .x) («u_at» .y) mv; v = picture.block 8 set (picture.image (planeAt (now (v .entry)) «v_at»)) («v_at» .x) («v_at» .y) mv } ⌝ }
+    ensures { λ _. ⌜ now (fetched .exit) ≡ length (blockOf 8 (planeAt (now (u .entry)) «u_at») («u_at» .x) («u_at» .y) mv ++ blockOf 8 (planeAt (now (v .entry)) «v_at») («v_at» .x) («v_at» .y) mv) ⌝ }
 {
     if whole_pixel_fraction_is_zero(mv) {
+        let mut u_fetched: u64 = 0;
+        let mut v_fetched: u64 = 0;
+        let u_pixels = pixels_of_8(u, u_at, mv, &mut u_fetched);
+        let v_pixels = pixels_of_8(v, v_at, mv, &mut v_fetched);
+        *fetched = u_fetched + v_fetched;
         return Chroma {
-            u: pixels_of_8(u, u_at, mv),
-            v: pixels_of_8(v, v_at, mv),
+            u: u_pixels,
+            v: v_pixels,
         };
     }
     let way = way_of(mv, set);
@@ -68,17 +86,21 @@ pub fn blocks_of_8(u: &[u8], u_at: Place, v: &[u8], v_at: Place, mv: Mv, set: Fi
             at: found.y * v_at.stride + found.x,
             pitch: v_at.stride,
         };
+        *fetched = found.fetched + found.fetched;
         let strips = filter_strips(u, u_from, v, v_from, 8, way);
         return apart(&strips);
     }
-    let u_halo = halo_of_8(u, u_at, mv);
-    let v_halo = halo_of_8(v, v_at, mv);
+    let mut u_fetched: u64 = 0;
+    let mut v_fetched: u64 = 0;
+    let u_halo = halo_of_8(u, u_at, mv, &mut u_fetched);
+    let v_halo = halo_of_8(v, v_at, mv, &mut v_fetched);
+    *fetched = u_fetched + v_fetched;
     let whole = Window { at: 0, pitch: 13 };
     let strips = filter_strips(&u_halo, whole, &v_halo, whole, 8, way);
     apart(&strips)
 }
 
-// Blocks of 4 samples a side, put into rectangles of u_out and v_out.
+// Blocks of 4 samples a side, put into rectangles of u_out and v_out; gives how many samples they fetched.
 pub fn pair_into(
     u: &[u8],
     u_at: Place,
@@ -89,7 +111,7 @@ pub fn pair_into(
     u_out: &mut [u8],
     v_out: &mut [u8],
     spot: Spot,
-)
+) -> u64
     requires { ⌜ Accepted (now u) «u_at» ⌝ }
     requires { ⌜ Accepted (now v) «v_at» ⌝ }
     requires { ⌜ Alike «u_at» «v_at» ⌝ }
@@ -97,26 +119,41 @@ pub fn pair_into(
     requires { ⌜ Room (length (now «v_out»)) (spot .stride) (spot .x) (spot .y) 4 4 ⌝ }
     ensures { λ _. ⌜ now («u_out» .exit) ≡ put (now («u_out» .entry)) spot 4 (picture.block 4 set (picture.image (planeAt (now (u .entry)) «u_at»)) («u_at» .x) («u_at» .y) mv) ⌝ }
     ensures { λ _. ⌜ now («v_out» .exit) ≡ put (now («v_out» .entry)) spot 4 (picture.block 4 set (picture.image (planeAt (now (v .entry)) «v_at»)) («v_at» .x) («v_at» .y) mv) ⌝ }
+    ensures { λ r. ⌜ r ≡ length (blockOf 4 (planeAt (now (u .entry)) «u_at») («u_at» .x) («u_at» .y) mv ++ blockOf 4 (planeAt (now (v .entry)) «v_at») («v_at» .x) («v_at» .y) mv) ⌝ }
 {
     if whole_pixel_fraction_is_zero(mv) {
         let whole = Window { at: 0, pitch: 4 };
-        let u_block = pixels_of_4(u, u_at, mv);
-        let v_block = pixels_of_4(v, v_at, mv);
+        let mut u_fetched: u64 = 0;
+        let mut v_fetched: u64 = 0;
+        let u_block = pixels_of_4(u, u_at, mv, &mut u_fetched);
+        let v_block = pixels_of_4(v, v_at, mv, &mut v_fetched);
         copy_rect(u_out, spot, 4, 4, &u_block, whole);
         copy_rect(v_out, spot, 4, 4, &v_block, whole);
-        return;
+        return u_fetched + v_fetched;
     }
-    let pair = pair_of(u, u_at, v, v_at, mv, set);
+    let mut fetched: u64 = 0;
+    let pair = pair_of(u, u_at, v, v_at, mv, set, &mut fetched);
     copy_rect(u_out, spot, 4, 4, &pair, Window { at: 0, pitch: 8 });
     copy_rect(v_out, spot, 4, 4, &pair, Window { at: 4, pitch: 8 });
+    fetched
 }
 
-// The same filtered, side by side.
-fn pair_of(u: &[u8], u_at: Place, v: &[u8], v_at: Place, mv: Mv, set: FilterSet) -> [u8; 32]
+// The same filtered, side by side, where the vector has a fraction.
+fn pair_of(
+    u: &[u8],
+    u_at: Place,
+    v: &[u8],
+    v_at: Place,
+    mv: Mv,
+    set: FilterSet,
+    fetched: &mut u64,
+) -> [u8; 32]
     requires { ⌜ Accepted (now u) «u_at» ⌝ }
     requires { ⌜ Accepted (now v) «v_at» ⌝ }
     requires { ⌜ Alike «u_at» «v_at» ⌝ }
+    requires { ⌜ isWhole mv ≡ false ⌝ }
     ensures { λ r. ⌜ r ≡ beside 4 (picture.block 4 set (picture.image (planeAt (now (u .entry)) «u_at»)) («u_at» .x) («u_at» .y) mv) (picture.block 4 set (picture.image (planeAt (now (v .entry)) «v_at»)) («v_at» .x) («v_at» .y) mv) ⌝ }
+    ensures { λ _. ⌜ now (fetched .exit) ≡ length (blockOf 4 (planeAt (now (u .entry)) «u_at») («u_at» .x) («u_at» .y) mv ++ blockOf 4 (planeAt (now (v .entry)) «v_at») («v_at» .x) («v_at» .y) mv) ⌝ }
 {
     let way = way_of(mv, set);
     let found = find(u_at, mv, 9);
@@ -129,10 +166,14 @@ fn pair_of(u: &[u8], u_at: Place, v: &[u8], v_at: Place, mv: Mv, set: FilterSet)
             at: found.y * v_at.stride + found.x,
             pitch: v_at.stride,
         };
+        *fetched = found.fetched + found.fetched;
         return filter_pair(u, u_from, v, v_from, way);
     }
-    let u_halo = halo_of_4(u, u_at, mv);
-    let v_halo = halo_of_4(v, v_at, mv);
+    let mut u_fetched: u64 = 0;
+    let mut v_fetched: u64 = 0;
+    let u_halo = halo_of_4(u, u_at, mv, &mut u_fetched);
+    let v_halo = halo_of_4(v, v_at, mv, &mut v_fetched);
+    *fetched = u_fetched + v_fetched;
     let whole = Window { at: 0, pitch: 9 };
     filter_pair(&u_halo, whole, &v_halo, whole, way)
 }

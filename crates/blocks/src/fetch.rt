@@ -1,5 +1,5 @@
 // The fetches: samples of one plane at a vector's whole part, clamped to the picture, at whole pixels or with the halo that the filters need.
-// Each takes every plane, size, position and vector, and refuses by number.
+// Each takes every plane, size, position and vector, refuses by number, and says how many samples it fetched.
 ghost use mathlib.Core.Path.{_≡_};
 ghost use Rattle.rfc6386.specs.Block.{planeOf, pixels4, pixels8, pixels16, halo9, halo13, halo21};
 use crate::place::Place;
@@ -10,13 +10,13 @@ use crate::square::pixels_of_4;
 use crate::square::pixels_of_8;
 use crate::square::pixels_of_16;
 use refusals::plane_refusal;
-use rfc6386::Block4;
-use rfc6386::Block8;
-use rfc6386::Block16;
 use rfc6386::Halo9;
 use rfc6386::Halo13;
 use rfc6386::Halo21;
 use rfc6386::Mv;
+use rfc6386::Pixels4;
+use rfc6386::Pixels8;
+use rfc6386::Pixels16;
 
 // The 4x4 block at whole pixels: the fraction of the vector is left out.
 pub fn fetch_block_whole_pixel(
@@ -27,16 +27,18 @@ pub fn fetch_block_whole_pixel(
     blk_x: usize,
     blk_y: usize,
     mv: Mv,
-) -> Block4
+) -> Pixels4
     ensures { λ r. ⌜ r ≡ pixels4 (planeOf (now (plane .entry)) stride w h) «blk_x» «blk_y» mv ⌝ }
 {
     let number = plane_refusal(plane, stride, w, h, blk_x, blk_y);
     if number != 0 {
-        return Block4 {
+        return Pixels4 {
             number,
             samples: [0u8; 16],
+            fetched: 0,
         };
     }
+    let mut fetched: u64 = 0;
     let at = Place {
         stride,
         w,
@@ -44,9 +46,11 @@ pub fn fetch_block_whole_pixel(
         x: blk_x,
         y: blk_y,
     };
-    Block4 {
+    let samples = pixels_of_4(plane, at, mv, &mut fetched);
+    Pixels4 {
         number,
-        samples: pixels_of_4(plane, at, mv),
+        samples,
+        fetched,
     }
 }
 
@@ -67,8 +71,10 @@ pub fn fetch_block_halo(
         return Halo9 {
             number,
             samples: [0u8; 81],
+            fetched: 0,
         };
     }
+    let mut fetched: u64 = 0;
     let at = Place {
         stride,
         w,
@@ -76,9 +82,11 @@ pub fn fetch_block_halo(
         x: blk_x,
         y: blk_y,
     };
+    let samples = halo_of_4(plane, at, mv, &mut fetched);
     Halo9 {
         number,
-        samples: halo_of_4(plane, at, mv),
+        samples,
+        fetched,
     }
 }
 
@@ -91,16 +99,18 @@ pub fn fetch_luma_mb_whole_pixel(
     mb_x: usize,
     mb_y: usize,
     mv: Mv,
-) -> Block16
+) -> Pixels16
     ensures { λ r. ⌜ r ≡ pixels16 (planeOf (now (plane .entry)) stride w h) «mb_x» «mb_y» mv ⌝ }
 {
     let number = plane_refusal(plane, stride, w, h, mb_x, mb_y);
     if number != 0 {
-        return Block16 {
+        return Pixels16 {
             number,
             samples: [0u8; 256],
+            fetched: 0,
         };
     }
+    let mut fetched: u64 = 0;
     let at = Place {
         stride,
         w,
@@ -108,9 +118,11 @@ pub fn fetch_luma_mb_whole_pixel(
         x: mb_x,
         y: mb_y,
     };
-    Block16 {
+    let samples = pixels_of_16(plane, at, mv, &mut fetched);
+    Pixels16 {
         number,
-        samples: pixels_of_16(plane, at, mv),
+        samples,
+        fetched,
     }
 }
 
@@ -131,8 +143,10 @@ pub fn fetch_luma_mb_halo(
         return Halo21 {
             number,
             samples: [0u8; 441],
+            fetched: 0,
         };
     }
+    let mut fetched: u64 = 0;
     let at = Place {
         stride,
         w,
@@ -140,9 +154,11 @@ pub fn fetch_luma_mb_halo(
         x: mb_x,
         y: mb_y,
     };
+    let samples = halo_of_16(plane, at, mv, &mut fetched);
     Halo21 {
         number,
-        samples: halo_of_16(plane, at, mv),
+        samples,
+        fetched,
     }
 }
 
@@ -155,16 +171,18 @@ pub fn fetch_chroma_mb_whole_pixel(
     mb_x: usize,
     mb_y: usize,
     mv: Mv,
-) -> Block8
+) -> Pixels8
     ensures { λ r. ⌜ r ≡ pixels8 (planeOf (now (plane .entry)) stride w h) «mb_x» «mb_y» mv ⌝ }
 {
     let number = plane_refusal(plane, stride, w, h, mb_x, mb_y);
     if number != 0 {
-        return Block8 {
+        return Pixels8 {
             number,
             samples: [0u8; 64],
+            fetched: 0,
         };
     }
+    let mut fetched: u64 = 0;
     let at = Place {
         stride,
         w,
@@ -172,9 +190,11 @@ pub fn fetch_chroma_mb_whole_pixel(
         x: mb_x,
         y: mb_y,
     };
-    Block8 {
+    let samples = pixels_of_8(plane, at, mv, &mut fetched);
+    Pixels8 {
         number,
-        samples: pixels_of_8(plane, at, mv),
+        samples,
+        fetched,
     }
 }
 
@@ -195,8 +215,10 @@ pub fn fetch_chroma_mb_halo(
         return Halo13 {
             number,
             samples: [0u8; 169],
+            fetched: 0,
         };
     }
+    let mut fetched: u64 = 0;
     let at = Place {
         stride,
         w,
@@ -204,8 +226,10 @@ pub fn fetch_chroma_mb_halo(
         x: mb_x,
         y: mb_y,
     };
+    let samples = halo_of_8(plane, at, mv, &mut fetched);
     Halo13 {
         number,
-        samples: halo_of_8(plane, at, mv),
+        samples,
+        fetched,
     }
 }

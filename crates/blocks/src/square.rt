@@ -8,6 +8,9 @@ ghost use lib.IntN.{pos, _+ℤ_};
 ghost use Rattle.rfc6386.specs.Number.{clamped};
 ghost use Rattle.rfc6386.specs.Vector.{wholePart};
 ghost use Rattle.rfc6386.specs.Picture.{image, square, pixels, halo};
+ghost use Rattle.rfc6386.specs.Fetched.{squareOf, pixelsOf, haloOf};
+ghost use Rattle.steps.specs.Rows.{Room};
+ghost use Rattle.steps.specs.Window.{put};
 ghost use Rattle.blocks.specs.Places.{Near, Inside, Source, clampedRow, clampedRect, planeAt, Accepted, haloStart};
 use crate::place::Place;
 use motion_vectors::whole_part;
@@ -88,9 +91,10 @@ pub fn inside(src: i64, n: usize, size: usize) -> bool
     (src as usize) <= size - n
 }
 
-// The square of n samples a side from column x0, row y0 on, to out. Where all of it lies inside, nothing needs clamping. Elsewhere `rows` rows
-// of `cols` samples, n or little more, are clamped and the corner taken: with some counts the compiler unrolls both ways into single bytes and
-// slows down the plain copy, and the callers' are the least that do not; in a record those three numbers make every copy a call.
+// The square of n samples a side from column x0, row y0 on, put into a rectangle of out; gives how many samples it fetched. Where all of it
+// lies inside, nothing needs clamping. Elsewhere `rows` rows of `cols` samples, n or little more, are clamped and the corner taken: with some
+// counts the compiler unrolls both ways into single bytes and slows down the plain copy, and the callers' are the least that do not; in a
+// record those three numbers make every copy a call.
 fn fetch(
     plane: &[u8],
     at: Place,
@@ -100,32 +104,30 @@ fn fetch(
     cols: usize,
     rows: usize,
     out: &mut [u8],
-)
+    spot: Spot,
+) -> u64
     requires { ⌜ Source (planeAt (now plane) at) x0 y0 ⌝ }
     requires { ⌜ (1 ≤ n) × (n ≤ cols) × (cols ≤ 21) ⌝ }
     requires { ⌜ (n ≤ rows) × (rows ≤ 21) ⌝ }
-    requires { ⌜ length (now out) ≡ n * n ⌝ }
-    ensures { λ _. ⌜ now (out .exit) ≡ square n (image (planeAt (now (plane .entry)) at)) x0 y0 ⌝ }
+    requires { ⌜ Room (length (now out)) (spot .stride) (spot .x) (spot .y) n n ⌝ }
+    ensures { λ _. ⌜ now (out .exit) ≡ put (now (out .entry)) spot n (square n (image (planeAt (now (plane .entry)) at)) x0 y0) ⌝ }
+    ensures { λ r. ⌜ r ≡ length (squareOf n (at .w) (at .h) x0 y0) ⌝ }
 {
-    let whole = Spot {
-        stride: n,
-        x: 0,
-        y: 0,
-    };
     if inside(x0, n, at.w) {
         if inside(y0, n, at.h) {
             let from = Window {
                 at: (y0 as usize) * at.stride + (x0 as usize),
                 pitch: at.stride,
             };
-            copy_rect(out, whole, n, n, plane, from);
-            return;
+            copy_rect(out, spot, n, n, plane, from);
+            return (n * n) as u64;
         }
     }
     let mut wide = [0u8; 441];
     clamped(plane, at, x0, y0, cols, rows, &mut wide);
     let corner = Window { at: 0, pitch: cols };
-    copy_rect(out, whole, n, n, &wide, corner);
+    copy_rect(out, spot, n, n, &wide, corner);
+    (n * n) as u64
 }
 
 // Where a block's samples start on one axis, at whole pixels.
@@ -138,81 +140,137 @@ pub fn origin(at: usize, m: i16) -> i64
 
 // ---- the samples of a block of n a side by its vector, where the call is not refused
 // At whole pixels: n is the side of the block.
-fn fetch_pixels(plane: &[u8], at: Place, mv: Mv, n: usize, cols: usize, rows: usize, out: &mut [u8])
+pub fn fetch_pixels(
+    plane: &[u8],
+    at: Place,
+    mv: Mv,
+    n: usize,
+    cols: usize,
+    rows: usize,
+    out: &mut [u8],
+    spot: Spot,
+) -> u64
     requires { ⌜ Accepted (now plane) at ⌝ }
     requires { ⌜ (1 ≤ n) × (n ≤ cols) × (cols ≤ 21) ⌝ }
     requires { ⌜ (n ≤ rows) × (rows ≤ 21) ⌝ }
-    requires { ⌜ length (now out) ≡ n * n ⌝ }
-    ensures { λ _. ⌜ now (out .exit) ≡ square n (image (planeAt (now (plane .entry)) at)) (pos (at .x) +ℤ wholePart (mv .col)) (pos (at .y) +ℤ wholePart (mv .row)) ⌝ }
+    requires { ⌜ Room (length (now out)) (spot .stride) (spot .x) (spot .y) n n ⌝ }
+    ensures { λ _. ⌜ now (out .exit) ≡ put (now (out .entry)) spot n (square n (image (planeAt (now (plane .entry)) at)) (pos (at .x) +ℤ wholePart (mv .col)) (pos (at .y) +ℤ wholePart (mv .row))) ⌝ }
+    ensures { λ r. ⌜ r ≡ length (squareOf n (at .w) (at .h) (pos (at .x) +ℤ wholePart (mv .col)) (pos (at .y) +ℤ wholePart (mv .row))) ⌝ }
 {
     let x0 = origin(at.x, mv.col);
     let y0 = origin(at.y, mv.row);
-    fetch(plane, at, x0, y0, n, cols, rows, out);
+    fetch(plane, at, x0, y0, n, cols, rows, out, spot)
 }
 
 // With the halo, two before and three after: n is the side of the block and five more.
-fn fetch_halo(plane: &[u8], at: Place, mv: Mv, n: usize, cols: usize, rows: usize, out: &mut [u8])
+fn fetch_halo(
+    plane: &[u8],
+    at: Place,
+    mv: Mv,
+    n: usize,
+    cols: usize,
+    rows: usize,
+    out: &mut [u8],
+    spot: Spot,
+) -> u64
     requires { ⌜ Accepted (now plane) at ⌝ }
     requires { ⌜ (1 ≤ n) × (n ≤ cols) × (cols ≤ 21) ⌝ }
     requires { ⌜ (n ≤ rows) × (rows ≤ 21) ⌝ }
-    requires { ⌜ length (now out) ≡ n * n ⌝ }
-    ensures { λ _. ⌜ now (out .exit) ≡ square n (image (planeAt (now (plane .entry)) at)) (haloStart (at .x) (mv .col)) (haloStart (at .y) (mv .row)) ⌝ }
+    requires { ⌜ Room (length (now out)) (spot .stride) (spot .x) (spot .y) n n ⌝ }
+    ensures { λ _. ⌜ now (out .exit) ≡ put (now (out .entry)) spot n (square n (image (planeAt (now (plane .entry)) at)) (haloStart (at .x) (mv .col)) (haloStart (at .y) (mv .row))) ⌝ }
+    ensures { λ r. ⌜ r ≡ length (squareOf n (at .w) (at .h) (haloStart (at .x) (mv .col)) (haloStart (at .y) (mv .row))) ⌝ }
 {
     let x0 = origin(at.x, mv.col) - 2;
     let y0 = origin(at.y, mv.row) - 2;
-    fetch(plane, at, x0, y0, n, cols, rows, out);
+    fetch(plane, at, x0, y0, n, cols, rows, out, spot)
 }
 
-pub fn pixels_of_4(plane: &[u8], at: Place, mv: Mv) -> [u8; 16]
+pub fn pixels_of_4(plane: &[u8], at: Place, mv: Mv, fetched: &mut u64) -> [u8; 16]
     requires { ⌜ Accepted (now plane) at ⌝ }
     ensures { λ r. ⌜ r ≡ pixels 4 (image (planeAt (now (plane .entry)) at)) (at .x) (at .y) mv ⌝ }
+    ensures { λ _. ⌜ now (fetched .exit) ≡ length (pixelsOf 4 (planeAt (now (plane .entry)) at) (at .x) (at .y) mv) ⌝ }
 {
     let mut out = [0u8; 16];
-    fetch_pixels(plane, at, mv, 4, 5, 5, &mut out);
+    let whole = Spot {
+        stride: 4,
+        x: 0,
+        y: 0,
+    };
+    *fetched = fetch_pixels(plane, at, mv, 4, 5, 5, &mut out, whole);
     out
 }
 
-pub fn pixels_of_8(plane: &[u8], at: Place, mv: Mv) -> [u8; 64]
+pub fn pixels_of_8(plane: &[u8], at: Place, mv: Mv, fetched: &mut u64) -> [u8; 64]
     requires { ⌜ Accepted (now plane) at ⌝ }
     ensures { λ r. ⌜ r ≡ pixels 8 (image (planeAt (now (plane .entry)) at)) (at .x) (at .y) mv ⌝ }
+    ensures { λ _. ⌜ now (fetched .exit) ≡ length (pixelsOf 8 (planeAt (now (plane .entry)) at) (at .x) (at .y) mv) ⌝ }
 {
     let mut out = [0u8; 64];
-    fetch_pixels(plane, at, mv, 8, 9, 9, &mut out);
+    let whole = Spot {
+        stride: 8,
+        x: 0,
+        y: 0,
+    };
+    *fetched = fetch_pixels(plane, at, mv, 8, 9, 9, &mut out, whole);
     out
 }
 
-pub fn pixels_of_16(plane: &[u8], at: Place, mv: Mv) -> [u8; 256]
+pub fn pixels_of_16(plane: &[u8], at: Place, mv: Mv, fetched: &mut u64) -> [u8; 256]
     requires { ⌜ Accepted (now plane) at ⌝ }
     ensures { λ r. ⌜ r ≡ pixels 16 (image (planeAt (now (plane .entry)) at)) (at .x) (at .y) mv ⌝ }
+    ensures { λ _. ⌜ now (fetched .exit) ≡ length (pixelsOf 16 (planeAt (now (plane .entry)) at) (at .x) (at .y) mv) ⌝ }
 {
     let mut out = [0u8; 256];
-    fetch_pixels(plane, at, mv, 16, 16, 16, &mut out);
+    let whole = Spot {
+        stride: 16,
+        x: 0,
+        y: 0,
+    };
+    *fetched = fetch_pixels(plane, at, mv, 16, 16, 16, &mut out, whole);
     out
 }
 
-pub fn halo_of_4(plane: &[u8], at: Place, mv: Mv) -> [u8; 81]
+pub fn halo_of_4(plane: &[u8], at: Place, mv: Mv, fetched: &mut u64) -> [u8; 81]
     requires { ⌜ Accepted (now plane) at ⌝ }
     ensures { λ r. ⌜ r ≡ halo 4 (image (planeAt (now (plane .entry)) at)) (at .x) (at .y) mv ⌝ }
+    ensures { λ _. ⌜ now (fetched .exit) ≡ length (haloOf 4 (planeAt (now (plane .entry)) at) (at .x) (at .y) mv) ⌝ }
 {
     let mut out = [0u8; 81];
-    fetch_halo(plane, at, mv, 9, 9, 12, &mut out);
+    let whole = Spot {
+        stride: 9,
+        x: 0,
+        y: 0,
+    };
+    *fetched = fetch_halo(plane, at, mv, 9, 9, 12, &mut out, whole);
     out
 }
 
-pub fn halo_of_8(plane: &[u8], at: Place, mv: Mv) -> [u8; 169]
+pub fn halo_of_8(plane: &[u8], at: Place, mv: Mv, fetched: &mut u64) -> [u8; 169]
     requires { ⌜ Accepted (now plane) at ⌝ }
     ensures { λ r. ⌜ r ≡ halo 8 (image (planeAt (now (plane .entry)) at)) (at .x) (at .y) mv ⌝ }
+    ensures { λ _. ⌜ now (fetched .exit) ≡ length (haloOf 8 (planeAt (now (plane .entry)) at) (at .x) (at .y) mv) ⌝ }
 {
     let mut out = [0u8; 169];
-    fetch_halo(plane, at, mv, 13, 13, 13, &mut out);
+    let whole = Spot {
+        stride: 13,
+        x: 0,
+        y: 0,
+    };
+    *fetched = fetch_halo(plane, at, mv, 13, 13, 13, &mut out, whole);
     out
 }
 
-pub fn halo_of_16(plane: &[u8], at: Place, mv: Mv) -> [u8; 441]
+pub fn halo_of_16(plane: &[u8], at: Place, mv: Mv, fetched: &mut u64) -> [u8; 441]
     requires { ⌜ Accepted (now plane) at ⌝ }
     ensures { λ r. ⌜ r ≡ halo 16 (image (planeAt (now (plane .entry)) at)) (at .x) (at .y) mv ⌝ }
+    ensures { λ _. ⌜ now (fetched .exit) ≡ length (haloOf 16 (planeAt (now (plane .entry)) at) (at .x) (at .y) mv) ⌝ }
 {
     let mut out = [0u8; 441];
-    fetch_halo(plane, at, mv, 21, 21, 21, &mut out);
+    let whole = Spot {
+        stride: 21,
+        x: 0,
+        y: 0,
+    };
+    *fetched = fetch_halo(plane, at, mv, 21, 21, 21, &mut out, whole);
     out
 }

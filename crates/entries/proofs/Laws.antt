@@ -5,15 +5,21 @@ use Rattle.rfc6386.specs.Refusal.{orElse}
 use Rattle.rfc6386.specs.Macroblock.{answered, noSamples}
 use Rattle.rfc6386.specs.Laws.Refusals.{done, refused, or-else-zero}
 use Rattle.entries.specs.Lists.{refusedBy}
-use Rattle.rfc6386.specs.declared.Prediction.{Prediction}
+use Rattle.rfc6386.specs.declared.Report.{Report}
 
-module _ (p : Prediction) (number n : ℕ) (e : n ≡ orElse (p .number) number) where
-  pub refused-not : n ≡ 0 → p ≡ refusedBy number p
+module _ (r : Report) (number n : ℕ) (e : n ≡ orElse (r .prediction .number) number) where
+  pub refused-not : n ≡ 0 → r ≡ refusedBy number r
   unfolding refusedBy answered
   refused-not z =
+      let p = r .prediction in
       let zero-is : orElse (p .number) number ≡ 0 = sym e ∙ z in
-      λ i. record { number = (or-else-zero (p .number) number zero-is ∙ sym zero-is) i; samples = sym (done (p .samples) noSamples zero-is) i }
+      λ i. record {
+        prediction = record { number = (or-else-zero (p .number) number zero-is ∙ sym zero-is) i; samples = sym (done (p .samples) noSamples zero-is) i };
+        fetched = sym (done (r .fetched) 0 zero-is) i;
+      }
 
-  pub refused-too : (n ≡ 0 → ⊥) → record { number = n; samples = noSamples } ≡ refusedBy number p
+  pub refused-too : (n ≡ 0 → ⊥) → record { prediction = record { number = n; samples = noSamples }; fetched = 0 } ≡ refusedBy number r
   unfolding refusedBy answered
-  refused-too h = λ i. record { number = e i; samples = sym (refused (p .samples) noSamples (λ z. h (e ∙ z))) i }
+  refused-too h =
+      let not-zero : orElse (r .prediction .number) number ≡ 0 → ⊥ = (λ z. h (e ∙ z)) in
+      λ i. record { prediction = record { number = e i; samples = sym (refused (r .prediction .samples) noSamples not-zero) i }; fetched = sym (refused (r .fetched) 0 not-zero) i }

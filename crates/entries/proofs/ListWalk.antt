@@ -1,5 +1,5 @@
--- The walk of the functions over a lent list of vectors, which differ in one call: `sixteen_mvs` reads the list, and a function on sixteen
--- vectors is called with what it answers. The proof knows of both their contracts alone. Assumes nothing.
+-- The walk of the functions over a lent list of vectors: `sixteen_mvs` reads the list, and a function on sixteen vectors is called with what it
+-- answers. They differ in that function, and in what it reports: `predict`. The proof knows of the contracts alone. Assumes nothing.
 use mathlib.Core.Path.{_≡_, refl, ap, _∙_}
 use mathlib.Core.Bool.{Bool}
 use mathlib.Core.List.{List, [], _∷_, map}
@@ -10,12 +10,10 @@ use mir.Syntax.{Name, Ty, Opd, Fn, named, imm, w64, tyInt, tyBool, tyRef, local,
 use mir.Val.{Val, vint, vbool}
 use base.Logic.{SProp, ent, sep, emp, via, fst∗, id⊢}
 use base.Fml.{Lft, Share, ftrue, flft}
-use prog.Memory.{Memory}
-use prog.Routine.{Routine}
 use prog.Wp.{Heap, Tables, WpFn}
 use ghost.Atoms.{Atoms, sem}
-use contract.Lifetimes.{toks}
-use contract.Monad.{Fun, factI}
+use contract.Lifetimes.{Lfts, toks}
+use contract.Monad.{fact, factI}
 use types.Kit.{Given, Item, mean, ‵, raw, _⊛_, _$_, _∵_, !, qed, by, move, keep, use1, use2, split, join, fsplit, fjoin, frame, done}
 use types.Run.{look, init, forget, stop, from, load, and-then, no-more, land, returns, enter, alloc1, alloc0, params1, pass1, pass0, free1, free0}
 use sound.WpLaws.{fmOf, WpFn-mono}
@@ -30,22 +28,23 @@ use denote.Struct.Laws as LL
 use denote.Enum.Laws as EL
 use denote.Triple.Statement.{Contract, Triple}
 use denote.Triple.Call.{calls-at}
-use denote.Triple.Entry.{Args, Vals, onEntry}
+use denote.Triple.Clauses.{Ended, Clauses, closing}
+use denote.Triple.Entry.{Args, Vals, Res, onEntry}
 use denote.Triple.Spec.{Meets, tripleOf}
 use denote.Triple.Walked.{walkOf, walked}
-use Rattle.rfc6386.specs.Vector.{fullPixel}
-use Rattle.rfc6386.specs.Macroblock.{lent, split as predicted}
+use Rattle.rfc6386.specs.Vector.{Lowering, fullPixel}
+use Rattle.rfc6386.specs.Macroblock.{Reference, lent}
 use Rattle.rfc6386.specs.declared.Mv.{Mv}
 use Rattle.rfc6386.specs.declared.Sizes.{Sizes}
 use Rattle.rfc6386.specs.declared.FilterSet.{FilterSet}
-use Rattle.rfc6386.specs.declared.Prediction.{Prediction}
+use Rattle.rfc6386.specs.declared.Report.{Report}
 use Rattle.rfc6386.proofs.Mv as E
 use Rattle.rfc6386.proofs.Sizes as Z
 use Rattle.rfc6386.proofs.Sizes.Laws as Z′
 use Rattle.rfc6386.proofs.FilterSet as F
 use Rattle.rfc6386.proofs.FilterSet.Laws as F′
-use Rattle.rfc6386.proofs.Prediction as S
-use Rattle.rfc6386.proofs.Prediction.Laws as S′
+use Rattle.rfc6386.proofs.Report as S
+use Rattle.rfc6386.proofs.Report.Laws as S′
 use Rattle.rfc6386.specs.Refusal.{countRefusal}
 use Rattle.entries.specs.Lists.{sixteenOf, refusedBy}
 use Rattle.entries.specs.declared.sixteen.MvList.{MvList}
@@ -84,17 +83,45 @@ function f =
           return);
     }
 
-module _ {M : Type 1} (𝓤 : URA M) (H : Heap 𝓤) (A : Atoms 𝓤) (mem : Memory → SProp 𝓤) (run : Routine → Fun 𝓤) where
-  -- the contracts of the functions that are called: the second is that of both
-  abbrev pub Reader : Contract 𝓤
-  Reader = tripleOf 𝓤 H A reader.signature (reader.spec 𝓤 H A mem run)
+-- what a list is read as
+abbrev read-as : RefT (List Mv) → MvList
+read-as mvs = record { number = countRefusal 16 (length (now mvs)); mvs = sixteenOf (now mvs) }
+
+-- what is passed, X in the place of the vectors
+abbrev Passed : Type 0 → Type 0
+Passed X = RefT (List ℕ) × (RefT (List ℕ) × (RefT (List ℕ) × (Sizes × (ℕ × (ℕ × (X × (Bool × (FilterSet × Unit {0}))))))))
+
+module _ {M : Type 1} (𝓤 : URA M) where
+  -- the clauses of a contract that is an equation
+  abbrev equation : (T : Ended) → ((κs : Lfts (T .signature .lifetimes)) → Args (T .signature) κs → Res (T .signature) κs) → Clauses 𝓤 T
+  equation T answer κs a = record { ghost = Unit {0}; requires = λ g. emp 𝓤; ensures = λ g r e. fact 𝓤 (r ≡ answer κs a) }
+
+  -- the contracts of the functions that are called: of `sixteen_mvs`, and below, of the one on sixteen vectors
+  abbrev reader-clauses : Clauses 𝓤 reader.ended
+  reader-clauses = equation reader.ended (λ κs a. read-as (a .0))
+
+  abbrev pub Reader : (H : Heap 𝓤) → Atoms 𝓤 → Contract 𝓤
+  Reader H A = tripleOf 𝓤 H A reader.signature (closing 𝓤 H A reader.ended reader-clauses)
+
+module _ {M : Type 1} (𝓤 : URA M) (H : Heap 𝓤) (A : Atoms 𝓤) (predict : FilterSet → Lowering → Reference → ℕ → ℕ → List Mv → Report) where
+  -- the report on vectors that were read from a list. The signatures below are those of split, and merging has the same
+  abbrev reports : {X : Type 0} → (X → MvList) → Passed X → Report
+  reports read (y, (u, (v, (s, (col, (row, (x, (flag, (set, _))))))))) =
+      let l = read x in
+      refusedBy (l .number) (predict set (fullPixel flag) (lent (now y) (now u) (now v) s) col row (l .mvs))
+
+  abbrev core-clauses : Clauses 𝓤 core.ended
+  core-clauses = equation 𝓤 core.ended (λ κs. reports (λ x. x))
+
+  abbrev entry-clauses : Clauses 𝓤 entry.ended
+  entry-clauses = equation 𝓤 entry.ended (λ κs. reports read-as)
 
   abbrev pub Core : Contract 𝓤
-  Core = tripleOf 𝓤 H A core.signature (core.spec 𝓤 H A mem run)
+  Core = tripleOf 𝓤 H A core.signature (closing 𝓤 H A core.ended core-clauses)
 
   -- the contract at which the walk ends
   abbrev Walk : Contract 𝓤
-  Walk = walkOf 𝓤 H A entry.ended (dropped (entry.signature .params) (entry.ended .kept)) (entry.clauses 𝓤 H A mem run)
+  Walk = walkOf 𝓤 H A entry.ended (dropped (entry.signature .params) (entry.ended .kept)) entry-clauses
 
   module _ (W : Given 𝓤 H A) (κ₀ κ₁ κ₂ κ₃ : Lft) (q₀ q₁ q₂ q₃ : Share) where
     -- the tokens of the three planes and of the list
@@ -169,12 +196,9 @@ module _ {M : Type 1} (𝓤 : URA M) (H : Heap 𝓤) (A : Atoms 𝓤) (mem : Mem
           move ! (8 ∷ 1 ∷ []) $ fjoin ! $ move ! (1 ∷ 0 ∷ []) $ fjoin ! $ move ! (1 ∷ 0 ∷ []) $ fjoin ! $ move ! (1 ∷ 0 ∷ []) $ fjoin ! $
           move ! (1 ∷ 0 ∷ []) $ fjoin ! $ move ! (1 ∷ 0 ∷ []) $ fjoin ! $ move ! (1 ∷ 0 ∷ []) $ fjoin ! $ move ! (1 ∷ []) $ join ! $ frame ! $ done !
 
-      -- the vectors as they are read, and what is predicted from them
-      abbrev list : MvList
-      list = record { number = countRefusal 16 (length (now mvs)); mvs = sixteenOf (now mvs) }
-
-      abbrev from-list : MvList → Prediction
-      from-list l = refusedBy (l .number) (predicted set (fullPixel flag) (lent (now y) (now u) (now v) s) col row (l .mvs))
+      -- what is reported on the vectors, as they are read
+      abbrev from-list : MvList → Report
+      from-list l = reports (λ x. x) (with L.the-row l)
 
       -- the arguments and their machine values
       abbrev args : Args entry.signature (κ₀, (κ₁, (κ₂, (κ₃, tt))))
@@ -187,13 +211,13 @@ module _ {M : Type 1} (𝓤 : URA M) (H : Heap 𝓤) (A : Atoms 𝓤) (mem : Mem
       here = (((κ₀, (κ₁, (κ₂, (κ₃, tt)))), (q₀, (q₁, (q₂, (q₃, tt)))), tt, args, at), tt)
 
       -- and those that are passed on
-      abbrev to-reader : Reader .Ghost
+      abbrev to-reader : Reader 𝓤 H A .Ghost
       to-reader = (((κ₃, tt), (q₃, tt), tt, (mvs, tt), (slice mvs ∷ [], tt)), tt)
 
       abbrev to-core : MvList → Val → Core .Ghost
       to-core l w = (((κ₀, (κ₁, (κ₂, tt))), (q₀, (q₁, (q₂, tt))), tt, with L.the-row l, with-vals L.the-row w), tt)
 
-      walk : (f : Name) (𝓣 : Tables 𝓤 H) → Triple 𝓤 (𝓣 .C #reader) Reader → Triple 𝓤 (𝓣 .C f) Core
+      walk : (f : Name) (𝓣 : Tables 𝓤 H) → Triple 𝓤 (𝓣 .C #reader) (Reader 𝓤 H A) → Triple 𝓤 (𝓣 .C f) Core
           → Is (ShrSlice (named 0) κ₀ u8) y (slice y ∷ []) → Is (ShrSlice (named 1) κ₁ u8) u (slice u ∷ []) → Is (ShrSlice (named 2) κ₂ u8) v (slice v ∷ [])
           → Is Z.the-row s (Z′.lowered s ∷ []) → Is usize col (vint w64 col ∷ []) → Is usize row (vint w64 row ∷ []) → Is (ShrSlice (named 3) κ₃ E.the-row) mvs
           (slice mvs ∷ []) → Is Boolean flag (vbool flag ∷ []) → Is F.the-row set (EL.val F.the-type F′.the-laws set ∷ [])
@@ -215,9 +239,9 @@ module _ {M : Type 1} (𝓤 : URA M) (H : Heap 𝓤) (A : Atoms 𝓤) (mem : Mem
           pass1 ! (init ! 4 refl (bool-lawful 𝓤 H A W .typed flag _ is-flag .0)) $
           pass1 ! (init ! 2 refl (EL.lawful F.the-type F′.the-laws 𝓤 H A W tt .typed set _ is-set .0)) $ pass0 ! $
           -- [the locals; what is passed]
-          move ! (22 ∷ []) $ use1 W (raw (Reader .pre to-reader) ⊛ Rest) apart $ split ! $
-          calls-at ! fm Reader reads to-reader (and-then ! (load ! (from ! (stop !)) (look ! 8 refl)) (no-more !)) (λ w.
-          answers ! tt reader.ended (reader.clauses 𝓤 H A mem run) to-reader w (λ (l : MvList). l ≡ list) (λ l ws. id⊢ 𝓤 _) (λ l read is-l.
+          move ! (22 ∷ []) $ use1 W (raw (Reader 𝓤 H A .pre to-reader) ⊛ Rest) apart $ split ! $
+          calls-at ! fm (Reader 𝓤 H A) reads to-reader (and-then ! (load ! (from ! (stop !)) (look ! 8 refl)) (no-more !)) (λ w.
+          answers ! tt reader.ended (reader-clauses 𝓤) to-reader w (λ (l : MvList). l ≡ read-as mvs) (λ l ws. id⊢ 𝓤 _) (λ l read is-l.
           -- [the vectors; the list's token; the rest; the locals]
           land ! (from ! (stop !)) (init ! 3 refl (LL.lawful L.the-type L′.the-laws 𝓤 H A W .typed l _ is-l .0)) $
           move ! (0 ∷ 2 ∷ []) $ use2 W (raw (Core .pre (to-core l w))) (onward l w) $
@@ -227,7 +251,7 @@ module _ {M : Type 1} (𝓤 : URA M) (H : Heap 𝓤) (A : Atoms 𝓤) (mem : Mem
           (and-then ! (load ! (from ! (stop !)) (look ! 12 refl)) (and-then ! (load ! (from ! (stop !)) (look ! 10 refl))
           (and-then ! (load ! (from ! (stop !)) (look ! 2 refl)) (and-then ! (load ! (from ! (stop !)) (look ! 6 refl))
           (and-then ! (load ! (from ! (stop !)) (look ! 4 refl)) (no-more !)))))))))) (λ z.
-          answers ! tt core.ended (core.clauses 𝓤 H A mem run) (to-core l w) z (λ (r : Prediction). r ≡ from-list l) (λ r ws. id⊢ 𝓤 _) (λ r e is-r.
+          answers ! tt core.ended core-clauses (to-core l w) z (λ (r : Report). r ≡ from-list l) (λ r ws. id⊢ 𝓤 _) (λ r e is-r.
           -- [the result; the planes' tokens; the list's; the locals]
           land ! (from ! (stop !)) (init ! 23 refl (LL.lawful S.the-type S′.the-laws 𝓤 H A W .typed r _ is-r .0)) $ returns ! (look ! 23 refl) $
           forget ! 3 refl $ forget ! 5 refl $ forget ! 7 refl $ forget ! 9 refl $ forget ! 11 refl $ forget ! 13 refl $ forget ! 15 refl $ forget ! 17 refl $
@@ -236,17 +260,17 @@ module _ {M : Type 1} (𝓤 : URA M) (H : Heap 𝓤) (A : Atoms 𝓤) (mem : Mem
           move ! (15 ∷ 16 ∷ []) $ free1 ! $ move ! (13 ∷ 14 ∷ []) $ free1 ! $ move ! (11 ∷ 12 ∷ []) $ free1 ! $ move ! (9 ∷ 10 ∷ []) $ free1 ! $
           move ! (7 ∷ 8 ∷ []) $ free1 ! $ move ! (5 ∷ 6 ∷ []) $ free1 ! $ move ! (3 ∷ 4 ∷ []) $ free1 ! $ free0 ! $
           move ! (1 ∷ 2 ∷ []) $ use2 W (raw All) together $ move ! (1 ∷ []) $
-          by ! (ends 𝓤 H A W entry.ended (entry.clauses 𝓤 H A mem run) here z r (tt, (tt, (tt, (tt, (tt, (tt, (tt, (tt, (tt, tt)))))))))
-          (factI 𝓤 (r ≡ from-list list) (emp 𝓤) (e ∙ ap from-list read))))))))))))))))))
+          by ! (ends 𝓤 H A W entry.ended entry-clauses here z r (tt, (tt, (tt, (tt, (tt, (tt, (tt, (tt, (tt, tt)))))))))
+          (factI 𝓤 (r ≡ from-list (read-as mvs)) (emp 𝓤) (e ∙ ap from-list read))))))))))))))))))
 
   -- whatever function on sixteen vectors is called, as long as it meets that contract
-  pub list-meets : Given 𝓤 H A → (f : Name) (𝓣 : Tables 𝓤 H) → Triple 𝓤 (𝓣 .C #reader) Reader → Triple 𝓤 (𝓣 .C f) Core
-      → Meets 𝓤 H A entry.signature (WpFn 𝓤 H (𝓣 .C) (𝓣 .Λ) (function f)) (entry.spec 𝓤 H A mem run)
+  pub list-meets : Given 𝓤 H A → (f : Name) (𝓣 : Tables 𝓤 H) → Triple 𝓤 (𝓣 .C #reader) (Reader 𝓤 H A) → Triple 𝓤 (𝓣 .C f) Core
+      → Meets 𝓤 H A entry.signature (WpFn 𝓤 H (𝓣 .C) (𝓣 .Λ) (function f)) (closing 𝓤 H A entry.ended entry-clauses)
   list-meets W f 𝓣 reads known =
-      meets 𝓤 H A W entry.ended (entry.clauses 𝓤 H A mem run)
+      meets 𝓤 H A W entry.ended entry-clauses
       (λ κs x f. refl, (λ κs x f. refl, (λ κs x f. refl, (λ κs x f. refl, (λ κs x f. refl, (λ κs x f. refl, (λ κs x f. refl, (λ κs x f. refl, (λ κs x f. refl, tt)))))))))
       (WpFn 𝓤 H (𝓣 .C) (𝓣 .Λ) (function f)) (WpFn-mono 𝓤 H (W .laws) 𝓣 (function f))
-      (walked 𝓤 H A entry.ended (dropped (entry.signature .params) (entry.ended .kept)) (entry.clauses 𝓤 H A mem run) (WpFn 𝓤 H (𝓣 .C) (𝓣 .Λ) (function f))
+      (walked 𝓤 H A entry.ended (dropped (entry.signature .params) (entry.ended .kept)) entry-clauses (WpFn 𝓤 H (𝓣 .C) (𝓣 .Λ) (function f))
       (λ κs. (slice-vals, (slice-vals, (slice-vals, (LL.vals Z.the-type Z′.the-laws, (uint-vals w64, (uint-vals w64, (slice-vals, (bool-vals, (EL.vals F.the-type F′.the-laws, tt))))))))))
       (λ κs. (shr-slice-tells (named 0) (κs .0) u8, (shr-slice-tells (named 1) (κs .1 .0) u8, (shr-slice-tells (named 2) (κs .1 .1 .0) u8, (LL.tells Z.the-type Z′.the-laws, (uint-tells w64, (uint-tells w64, (shr-slice-tells (named 3) (κs .1 .1 .1 .0) E.the-row, (bool-tells, (EL.tells F.the-type F′.the-laws, tt))))))))))
       (λ κs qs bounds a g are. via 𝓤 _ (fst∗ 𝓤 _ (emp 𝓤))

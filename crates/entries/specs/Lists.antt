@@ -6,16 +6,18 @@ use Rattle.rfc6386.specs.Vector.{zeroVector}
 use Rattle.rfc6386.specs.Refusal.{orElse, ifDone, countRefusal}
 use Rattle.rfc6386.specs.Macroblock.{answered}
 use Rattle.rfc6386.specs.declared.Mv.{Mv}
-use Rattle.rfc6386.specs.declared.Prediction.{Prediction}
+use Rattle.rfc6386.specs.declared.Report.{Report}
 
 -- a lent list of vectors as sixteen, zeros where it has not so many
 unfoldable pub sixteenOf : List Mv → List Mv
 sixteenOf l = ifDone (countRefusal 16 (length l)) l (replicate 16 zeroVector)
 
--- a prediction that number n refuses too, after its own numbers
-unfoldable pub refusedBy : ℕ → Prediction → Prediction
-refusedBy n p = answered (orElse (p .number) n) (p .samples)
+-- a report that number n refuses too, after its prediction's own numbers
+unfoldable pub refusedBy : ℕ → Report → Report
+refusedBy n r =
+    let m = orElse (r .prediction .number) n in
+    record { prediction = answered m (r .prediction .samples); fetched = ifDone m (r .fetched) 0 }
 
--- a prediction from a lent list of so many vectors
-abbrev pub listed : Prediction → ℕ → Prediction
-listed p count = refusedBy (countRefusal 16 count) p
+-- a report on a lent list of so many vectors
+abbrev pub listed : Report → ℕ → Report
+listed r count = refusedBy (countRefusal 16 count) r

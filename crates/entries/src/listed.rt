@@ -1,34 +1,28 @@
 // Prediction from sixteen vectors that were read from a list, and the number of that list.
 ghost use mathlib.Core.Path.{_≡_};
 ghost use Rattle.rfc6386.specs.Vector.{fullPixel};
-ghost use Rattle.rfc6386.specs.Macroblock.{lent, split};
+ghost use Rattle.rfc6386.specs.Macroblock.{lent};
+ghost use Rattle.rfc6386.specs.Report.{splitReport, mergingReport};
 ghost use Rattle.entries.specs.Lists.{refusedBy};
 use crate::sixteen::MvList;
 use prediction::predict_merging;
 use prediction::predict_split_mv;
+use prediction::refused_report;
 use refusals::or_else;
 use rfc6386::FilterSet;
-use rfc6386::Prediction;
-use rfc6386::ReconstructedMb;
+use rfc6386::Report;
 use rfc6386::Sizes;
 
-// A prediction that one more number refuses, after its own.
-fn refused_by(p: Prediction, number: u32) -> Prediction
-    ensures { λ r. ⌜ r ≡ refusedBy number p ⌝ }
+// A report that one more number refuses, after its prediction's own.
+fn refused_by(report: Report, number: u32) -> Report
+    ensures { λ r. ⌜ r ≡ refusedBy number report ⌝ }
 {
-    let own = p.number;
+    let own = report.prediction.number;
     let n = or_else(own, number);
     if n == 0 {
-        return p;
+        return report;
     }
-    Prediction {
-        number: n,
-        samples: ReconstructedMb {
-            y: [0u8; 256],
-            u: [0u8; 64],
-            v: [0u8; 64],
-        },
-    }
+    refused_report(n)
 }
 
 pub fn listed_split(
@@ -41,8 +35,8 @@ pub fn listed_split(
     list: MvList,
     full_pixel: bool,
     set: FilterSet,
-) -> Prediction
-    ensures { λ r. ⌜ r ≡ refusedBy (list .number) (split set (fullPixel «full_pixel») (lent (now (y .entry)) (now (u .entry)) (now (v .entry)) sizes) «mb_col» «mb_row» (list .mvs)) ⌝ }
+) -> Report
+    ensures { λ r. ⌜ r ≡ refusedBy (list .number) (splitReport set (fullPixel «full_pixel») (lent (now (y .entry)) (now (u .entry)) (now (v .entry)) sizes) «mb_col» «mb_row» (list .mvs)) ⌝ }
 {
     let mvs = list.mvs;
     let number = list.number;
@@ -62,8 +56,8 @@ pub fn listed_merging(
     list: MvList,
     full_pixel: bool,
     set: FilterSet,
-) -> Prediction
-    ensures { λ r. ⌜ r ≡ refusedBy (list .number) (split set (fullPixel «full_pixel») (lent (now (y .entry)) (now (u .entry)) (now (v .entry)) sizes) «mb_col» «mb_row» (list .mvs)) ⌝ }
+) -> Report
+    ensures { λ r. ⌜ r ≡ refusedBy (list .number) (mergingReport set (fullPixel «full_pixel») (lent (now (y .entry)) (now (u .entry)) (now (v .entry)) sizes) «mb_col» «mb_row» (list .mvs)) ⌝ }
 {
     let mvs = list.mvs;
     let number = list.number;

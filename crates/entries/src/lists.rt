@@ -2,14 +2,15 @@
 ghost use mathlib.Core.Path.{_≡_};
 ghost use lib.ListN.{length};
 ghost use Rattle.rfc6386.specs.Vector.{fullPixel};
-ghost use Rattle.rfc6386.specs.Macroblock.{lent, split};
+ghost use Rattle.rfc6386.specs.Macroblock.{lent};
+ghost use Rattle.rfc6386.specs.Report.{splitReport, mergingReport};
 ghost use Rattle.entries.specs.Lists.{sixteenOf, listed};
 use crate::listed::listed_merging;
 use crate::listed::listed_split;
 use crate::sixteen::sixteen_mvs;
 use rfc6386::FilterSet;
 use rfc6386::Mv;
-use rfc6386::Prediction;
+use rfc6386::Report;
 use rfc6386::Sizes;
 
 pub fn predict_split_mv_list(
@@ -22,8 +23,8 @@ pub fn predict_split_mv_list(
     mvs: &[Mv],
     full_pixel: bool,
     set: FilterSet,
-) -> Prediction
-    ensures { λ r. ⌜ r ≡ listed (split set (fullPixel «full_pixel») (lent (now (y .entry)) (now (u .entry)) (now (v .entry)) sizes) «mb_col» «mb_row» (sixteenOf (now (mvs .entry)))) (length (now (mvs .entry))) ⌝ }
+) -> Report
+    ensures { λ r. ⌜ r ≡ listed (splitReport set (fullPixel «full_pixel») (lent (now (y .entry)) (now (u .entry)) (now (v .entry)) sizes) «mb_col» «mb_row» (sixteenOf (now (mvs .entry)))) (length (now (mvs .entry))) ⌝ }
 {
     listed_split(
         y,
@@ -48,8 +49,8 @@ pub fn predict_merging_list(
     mvs: &[Mv],
     full_pixel: bool,
     set: FilterSet,
-) -> Prediction
-    ensures { λ r. ⌜ r ≡ listed (split set (fullPixel «full_pixel») (lent (now (y .entry)) (now (u .entry)) (now (v .entry)) sizes) «mb_col» «mb_row» (sixteenOf (now (mvs .entry)))) (length (now (mvs .entry))) ⌝ }
+) -> Report
+    ensures { λ r. ⌜ r ≡ listed (mergingReport set (fullPixel «full_pixel») (lent (now (y .entry)) (now (u .entry)) (now (v .entry)) sizes) «mb_col» «mb_row» (sixteenOf (now (mvs .entry)))) (length (now (mvs .entry))) ⌝ }
 {
     listed_merging(
         y,

@@ -1,10 +1,11 @@
 // Prediction over `ReferencePlanes`: each entry takes the record apart and calls the function of the same name on plain slices.
 ghost use mathlib.Core.Path.{_≡_};
 ghost use Rattle.rfc6386.specs.Vector.{fullPixel};
-ghost use Rattle.rfc6386.specs.Macroblock.{lent, whole, split, wholePixel};
+ghost use Rattle.rfc6386.specs.Macroblock.{lent};
+ghost use Rattle.rfc6386.specs.Report.{wholeReport, wholePixelReport, splitReport};
 use rfc6386::FilterSet;
 use rfc6386::Mv;
-use rfc6386::Prediction;
+use rfc6386::Report;
 use rfc6386::Sizes;
 
 // The planes of one reference picture, with their strides and the picture's size in macroblocks.
@@ -25,8 +26,8 @@ pub fn predict_inter_mb_whole_pixel<'a>(
     mb_row: usize,
     luma_mv: Mv,
     full_pixel: bool,
-) -> Prediction
-    ensures { λ r. ⌜ r ≡ wholePixel (fullPixel «full_pixel») (lent (now (reference .entry .y)) (now (reference .entry .u)) (now (reference .entry .v)) (record { «y_stride» = reference .entry .«y_stride»; «u_stride» = reference .entry .«u_stride»; «v_stride» = reference .entry .«v_stride»; «mb_cols» = reference .entry .«mb_cols»; «mb_rows» = reference .entry .«mb_rows» })) «mb_col» «mb_row» «luma_mv» ⌝ }
+) -> Report
+    ensures { λ r. ⌜ r ≡ wholePixelReport (fullPixel «full_pixel») (lent (now (reference .entry .y)) (now (reference .entry .u)) (now (reference .entry .v)) (record { «y_stride» = reference .entry .«y_stride»; «u_stride» = reference .entry .«u_stride»; «v_stride» = reference .entry .«v_stride»; «mb_cols» = reference .entry .«mb_cols»; «mb_rows» = reference .entry .«mb_rows» })) «mb_col» «mb_row» «luma_mv» ⌝ }
 {
     prediction::predict_inter_mb_whole_pixel(
         reference.y,
@@ -53,8 +54,8 @@ pub fn predict_inter_mb<'a>(
     luma_mv: Mv,
     full_pixel: bool,
     set: FilterSet,
-) -> Prediction
-    ensures { λ r. ⌜ r ≡ whole set (fullPixel «full_pixel») (lent (now (reference .entry .y)) (now (reference .entry .u)) (now (reference .entry .v)) (record { «y_stride» = reference .entry .«y_stride»; «u_stride» = reference .entry .«u_stride»; «v_stride» = reference .entry .«v_stride»; «mb_cols» = reference .entry .«mb_cols»; «mb_rows» = reference .entry .«mb_rows» })) «mb_col» «mb_row» «luma_mv» ⌝ }
+) -> Report
+    ensures { λ r. ⌜ r ≡ wholeReport set (fullPixel «full_pixel») (lent (now (reference .entry .y)) (now (reference .entry .u)) (now (reference .entry .v)) (record { «y_stride» = reference .entry .«y_stride»; «u_stride» = reference .entry .«u_stride»; «v_stride» = reference .entry .«v_stride»; «mb_cols» = reference .entry .«mb_cols»; «mb_rows» = reference .entry .«mb_rows» })) «mb_col» «mb_row» «luma_mv» ⌝ }
 {
     prediction::predict_inter_mb(
         reference.y,
@@ -82,8 +83,8 @@ pub fn predict_split_mv<'a>(
     split_luma_mvs: [Mv; 16],
     full_pixel: bool,
     set: FilterSet,
-) -> Prediction
-    ensures { λ r. ⌜ r ≡ split set (fullPixel «full_pixel») (lent (now (reference .entry .y)) (now (reference .entry .u)) (now (reference .entry .v)) (record { «y_stride» = reference .entry .«y_stride»; «u_stride» = reference .entry .«u_stride»; «v_stride» = reference .entry .«v_stride»; «mb_cols» = reference .entry .«mb_cols»; «mb_rows» = reference .entry .«mb_rows» })) «mb_col» «mb_row» «split_luma_mvs» ⌝ }
+) -> Report
+    ensures { λ r. ⌜ r ≡ splitReport set (fullPixel «full_pixel») (lent (now (reference .entry .y)) (now (reference .entry .u)) (now (reference .entry .v)) (record { «y_stride» = reference .entry .«y_stride»; «u_stride» = reference .entry .«u_stride»; «v_stride» = reference .entry .«v_stride»; «mb_cols» = reference .entry .«mb_cols»; «mb_rows» = reference .entry .«mb_rows» })) «mb_col» «mb_row» «split_luma_mvs» ⌝ }
 {
     prediction::predict_split_mv(
         reference.y,

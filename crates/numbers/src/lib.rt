@@ -16,7 +16,7 @@ pub const VECTORS: u32 = 6;
 pub const ROOM: u32 = 7;
 // a fraction is left where there should be none
 pub const FRACTION: u32 = 8;
-// orders of another length, or a code in them that there is not
+// orders of another length, or a code in them that there is not; a kind of prediction that there is not
 pub const ORDERS: u32 = 9;
 // a version that is reserved, or cannot be
 pub const VERSION: u32 = 10;

@@ -15,11 +15,13 @@ use Rattle.rfc6386.specs.Promises.{one-result}
 use Rattle.rfc6386.specs.Laws.Raster.{length-raster}
 use Rattle.rfc6386.specs.Laws.Refusals.{done, refused}
 use Rattle.rfc6386.specs.Laws.Blocks.{length-block}
-use Rattle.outputs.specs.Output.{flat, callNumber, Left}
+use Rattle.outputs.specs.Output.{flat, callNumber, Left, Told}
 use Rattle.rfc6386.specs.declared.Mv.{Mv}
 use Rattle.rfc6386.specs.declared.FilterSet.{FilterSet}
 use Rattle.rfc6386.specs.declared.ReconstructedMb.{ReconstructedMb}
 use Rattle.rfc6386.specs.declared.Prediction.{Prediction}
+use Rattle.rfc6386.specs.declared.Report.{Report}
+use Rattle.outputs.specs.declared.into.Ended.{Ended}
 
 -- ---- how a call ends
 -- what is left does not depend on what a refused call would have written
@@ -52,9 +54,27 @@ module _ (p : Prediction) (codes : ℕ) (out : List ℕ) (n : ℕ) (e : n ≡ ca
 pub left-as : {p q : Prediction} {n m : ℕ} {out out′ : List ℕ} {r : ℕ} → p ≡ q → n ≡ m → Left p n out r out′ → Left q m out r out′
 left-as {out} {out′} {r} e f h = subst (λ (x : Prediction × ℕ). Left (x .0) (x .1) out r out′) (λ i. (e i, f i)) h
 
--- ---- THEOREM. No two outcomes meet the contract of a C function: its number, and the bytes that it leaves.
+-- and with what was fetched
+module _ (report : Report) (codes : ℕ) (out : List ℕ) (n : ℕ) (e : n ≡ callNumber (report .prediction) codes out) where
+  pub told-refused : (n ≡ 0 → ⊥) → Told report codes out (record { number = n; fetched = 0 }) out
+  told-refused h = record { leaves = left-refused (report .prediction) codes out n e h; fetched-is = sym (refused (report .fetched) 0 (λ z. h (e ∙ z))) }
+
+  pub told-done : (out′ : List ℕ) → n ≡ 0 → out′ ≡ flat (report .prediction .samples) → Told report codes out (record { number = 0; fetched = report .fetched }) out′
+  told-done out′ z w =
+      record { leaves = left-done (report .prediction) codes out n e out′ z w; fetched-is = sym (done (report .fetched) 0 (sym e ∙ z)) }
+
+pub told-as : {p q : Report} {n m : ℕ} {out out′ : List ℕ} {r : Ended} → p ≡ q → n ≡ m → Told p n out r out′ → Told q m out r out′
+told-as {out} {out′} {r} e f h = subst (λ (x : Report × ℕ). Told (x .0) (x .1) out r out′) (λ i. (e i, f i)) h
+
+-- ---- THEOREM. No two outcomes meet the contract of a C function: its number, the bytes that it leaves, and what it says was fetched.
 pub one-outcome : {p : Prediction} {codes : ℕ} {out : List ℕ} {r s : ℕ} {a b : List ℕ} → Left p codes out r a → Left p codes out s b → (r ≡ s) × (a ≡ b)
 one-outcome h k = (one-result (h .number-is) (k .number-is), one-result (h .bytes-are) (k .bytes-are))
+
+pub one-telling : {p : Report} {codes : ℕ} {out : List ℕ} {r s : Ended} {a b : List ℕ} → Told p codes out r a → Told p codes out s b → (r ≡ s) × (a ≡ b)
+one-telling h k =
+    let left = one-outcome (h .leaves) (k .leaves) in
+    let fetched = one-result (h .fetched-is) (k .fetched-is) in
+    (λ i. record { number = left .0 i; fetched = fetched i }, left .1)
 
 -- ---- how many samples there are
 pub record Counted (s : ReconstructedMb) : Type 0 where

@@ -6,6 +6,8 @@ use lib.ListN.{length}
 use Rattle.rfc6386.specs.Refusal.{orElse, ifDone, roomRefusal}
 use Rattle.rfc6386.specs.declared.ReconstructedMb.{ReconstructedMb}
 use Rattle.rfc6386.specs.declared.Prediction.{Prediction}
+use Rattle.rfc6386.specs.declared.Report.{Report}
+use Rattle.outputs.specs.declared.into.Ended.{Ended}
 
 -- the samples of a macroblock one after the other
 abbrev pub flat : ReconstructedMb → List ℕ
@@ -19,3 +21,8 @@ callNumber p codes out = orElse (p .number) (orElse codes (roomRefusal (length o
 pub record Left (p : Prediction) (codes : ℕ) (out : List ℕ) (r : ℕ) (out′ : List ℕ) : Type 0 where
   pub number-is : r ≡ callNumber p codes out
   pub bytes-are : out′ ≡ ifDone (callNumber p codes out) (flat (p .samples)) out
+
+-- and what it says, with how many samples were fetched: none where it refuses
+pub record Told (report : Report) (codes : ℕ) (out : List ℕ) (ended : Ended) (out′ : List ℕ) : Type 0 where
+  pub leaves : Left (report .prediction) codes out (ended .number) out′
+  pub fetched-is : ended .fetched ≡ ifDone (callNumber (report .prediction) codes out) (report .fetched) 0

@@ -1,7 +1,9 @@
 // Predictions that end in a lent output.
+ghost use mathlib.Core.Path.{_≡_};
 ghost use Rattle.rfc6386.specs.Vector.{fullPixel};
-ghost use Rattle.rfc6386.specs.Macroblock.{lent, whole, split};
-ghost use Rattle.outputs.specs.Output.{Left};
+ghost use Rattle.rfc6386.specs.Macroblock.{lent};
+ghost use Rattle.rfc6386.specs.Report.{wholeReport, splitReport, quartersReport};
+ghost use Rattle.outputs.specs.Output.{Told};
 use crate::samples::write_samples;
 use prediction::predict_inter_mb_lowered;
 use prediction::predict_split_mv_lowered;
@@ -10,21 +12,33 @@ use refusals::or_else;
 use refusals::room_refusal;
 use rfc6386::FilterSet;
 use rfc6386::Mv;
-use rfc6386::Prediction;
+use rfc6386::Report;
 use rfc6386::Sizes;
 
-// Ends a call: gives its number, and writes the samples where that is 0. `codes` is the number that its codes get.
-fn finish(p: Prediction, codes: u32, out: &mut [u8]) -> u32
-    ensures { λ r. ⌜ Left p codes (now (out .entry)) r (now (out .exit)) ⌝ }
+// What a call says that is lent an output: its number, and how many samples it fetched.
+pub struct Ended {
+    pub number: u32,
+    pub fetched: u64,
+}
+
+// Ends a call. `codes` is the number that its codes get.
+fn finish(report: Report, codes: u32, out: &mut [u8]) -> Ended
+    ensures { λ r. ⌜ Told report codes (now (out .entry)) r (now (out .exit)) ⌝ }
 {
-    let own = p.number;
+    let own = report.prediction.number;
     let n = or_else(own, or_else(codes, room_refusal(out.len())));
     if n != 0 {
-        return n;
+        return Ended {
+            number: n,
+            fetched: 0,
+        };
     }
-    let samples = p.samples;
+    let samples = report.prediction.samples;
     write_samples(out, samples);
-    0
+    Ended {
+        number: 0,
+        fetched: report.fetched,
+    }
 }
 
 // Whole prediction.
@@ -41,10 +55,10 @@ pub fn whole_into(
     set: FilterSet,
     codes: u32,
     out: &mut [u8],
-) -> u32
-    ensures { λ r. ⌜ Left (whole set (record { luma = «lower_luma»; chroma = «lower_chroma» }) (lent (now (y .entry)) (now (u .entry)) (now (v .entry)) sizes) «mb_col» «mb_row» mv) codes (now (out .entry)) r (now (out .exit)) ⌝ }
+) -> Ended
+    ensures { λ r. ⌜ Told (wholeReport set (record { luma = «lower_luma»; chroma = «lower_chroma» }) (lent (now (y .entry)) (now (u .entry)) (now (v .entry)) sizes) «mb_col» «mb_row» mv) codes (now (out .entry)) r (now (out .exit)) ⌝ }
 {
-    let p = predict_inter_mb_lowered(
+    let report = predict_inter_mb_lowered(
         y,
         u,
         v,
@@ -56,7 +70,7 @@ pub fn whole_into(
         lower_chroma,
         set,
     );
-    finish(p, codes, out)
+    finish(report, codes, out)
 }
 
 // Split prediction.
@@ -73,10 +87,10 @@ pub fn split_into(
     set: FilterSet,
     codes: u32,
     out: &mut [u8],
-) -> u32
-    ensures { λ r. ⌜ Left (split set (record { luma = «lower_luma»; chroma = «lower_chroma» }) (lent (now (y .entry)) (now (u .entry)) (now (v .entry)) sizes) «mb_col» «mb_row» mvs) codes (now (out .entry)) r (now (out .exit)) ⌝ }
+) -> Ended
+    ensures { λ r. ⌜ Told (splitReport set (record { luma = «lower_luma»; chroma = «lower_chroma» }) (lent (now (y .entry)) (now (u .entry)) (now (v .entry)) sizes) «mb_col» «mb_row» mvs) codes (now (out .entry)) r (now (out .exit)) ⌝ }
 {
-    let p = predict_split_mv_lowered(
+    let report = predict_split_mv_lowered(
         y,
         u,
         v,
@@ -88,7 +102,7 @@ pub fn split_into(
         lower_chroma,
         set,
     );
-    finish(p, codes, out)
+    finish(report, codes, out)
 }
 
 // Split prediction that merges its luma by quarters.
@@ -104,9 +118,9 @@ pub fn quarters_into(
     set: FilterSet,
     codes: u32,
     out: &mut [u8],
-) -> u32
-    ensures { λ r. ⌜ Left (split set (fullPixel «full_pixel») (lent (now (y .entry)) (now (u .entry)) (now (v .entry)) sizes) «mb_col» «mb_row» mvs) codes (now (out .entry)) r (now (out .exit)) ⌝ }
+) -> Ended
+    ensures { λ r. ⌜ Told (quartersReport set (fullPixel «full_pixel») (lent (now (y .entry)) (now (u .entry)) (now (v .entry)) sizes) «mb_col» «mb_row» mvs) codes (now (out .entry)) r (now (out .exit)) ⌝ }
 {
-    let p = predict_quarters(y, u, v, sizes, mb_col, mb_row, mvs, full_pixel, set);
-    finish(p, codes, out)
+    let report = predict_quarters(y, u, v, sizes, mb_col, mb_row, mvs, full_pixel, set);
+    finish(report, codes, out)
 }

@@ -4,6 +4,7 @@
 mod into;
 mod samples;
 
+pub use into::Ended;
 pub use into::quarters_into;
 pub use into::split_into;
 pub use into::whole_into;

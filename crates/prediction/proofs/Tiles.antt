@@ -1,9 +1,9 @@
 -- Blocks of 4 by 4 put into a square of per by per of them, in raster order: what the square holds after the first b. Assumes nothing.
-use mathlib.Core.Path.{_≡_, refl, sym, ap, ap₂, _∙_}
+use mathlib.Core.Path.{_≡_, refl, sym, ap, ap₂, _∙_, subst}
 use mathlib.Core.Bool.{Bool, true, false, cond, _&&_}
 use mathlib.Core.Logic.{⊎-elim}
 use mathlib.Core.List.{List}
-use Prim.Native.Nat.{ℕ, _+_, _-_, _*_, _/_, _%_, _<_, _≤_}
+use Prim.Native.Nat.{ℕ, zero, suc, _+_, _-_, _*_, _/_, _%_, _<_, _≤_}
 use native.Mathlib.Nat.{div-add-mod', div-lt-iff-lt-mul, mod-lt, eq-or-lt-of-le}
 use native.Mathlib.Omega.{arith}
 use lib.Arith.{digits-div, digits-mod}
@@ -11,10 +11,12 @@ use lib.Dec.{T}
 use lib.ListN.{length, getD}
 use lib.IntN.{pos}
 use Rattle.rfc6386.specs.Raster.{within, written, raster}
-use Rattle.rfc6386.specs.Picture.{Image, predicted, block, blockBy}
+use Rattle.rfc6386.specs.Picture.{Plane, Image, predicted, block, blockBy}
+use Rattle.rfc6386.specs.Fetched.{Coordinate, blockOf, joined, tilesOf}
 use Rattle.rfc6386.specs.Laws.Raster.{is-tab, row-fits, within-true, getD-written, length-written, Within, within-is}
 use Rattle.rfc6386.specs.Laws.Tests.{and-true}
 use Rattle.rfc6386.specs.Laws.Blocks.{block-sample}
+use Rattle.rfc6386.specs.Laws.Fetched.{length-block, cost-most, joined-more, length-joined, total, total-most}
 use Rattle.rfc6386.specs.declared.Mv.{Mv}
 use Rattle.rfc6386.specs.declared.FilterSet.{FilterSet}
 
@@ -118,3 +120,41 @@ module _ (per : ℕ) (some : 1 ≤ per) (set : FilterSet) (img : Image) (x y : �
   tiled-all {out} {b} P h =
       is-tab 0 (n * n) sample out (P .size)
       (λ i k. P .done i k (omega (arith, row-fits (i / n / 4) per per (omega (arith, row i k)), column i)))
+
+-- ---- what the first b blocks fetch
+module _ (per : ℕ) (p : Plane) (x y : ℕ) (vector : ℕ → Mv) where
+  abbrev tileList : ℕ → List Coordinate
+  tileList b = blockOf 4 p (x + b % per * 4) (y + b / per * 4) (vector b)
+
+  abbrev pub fetchedBy : ℕ → ℕ
+  fetchedBy b = length (joined b tileList)
+
+  pub fetched-none : fetchedBy 0 ≡ 0
+  unfolding joined
+  fetched-none = refl
+
+  pub fetched-more : (b : ℕ) {k n : ℕ} → k ≡ fetchedBy b → n ≡ length (tileList b) → k + n ≡ fetchedBy (b + 1)
+  fetched-more b e h = ap₂ _+_ e h ∙ sym (joined-more tileList b)
+
+  pub tile-few : (b : ℕ) → length (tileList b) ≤ 81
+  tile-few b = subst (λ (k : ℕ). k ≤ 81) (sym (length-block 4 p (x + b % per * 4) (y + b / per * 4) (vector b))) (cost-most 4 (vector b))
+
+  pub fetched-few : (b : ℕ) → fetchedBy b ≤ b * 81
+  fetched-few b = subst (λ (k : ℕ). k ≤ b * 81) (sym (length-joined b tileList)) (total-most b 81 (λ i. length (tileList i)) (λ i h. tile-few i))
+
+  pub fetched-all : {k b : ℕ} → k ≡ fetchedBy b → b ≡ per * per → k ≡ length (tilesOf per p x y vector)
+  unfolding tilesOf
+  fetched-all e h = e ∙ ap fetchedBy h
+
+total-below : (n : ℕ) (f g : ℕ → ℕ) → ((i : ℕ) → i < n → f i ≡ g i) → total n f ≡ total n g
+total-below zero f g h = refl
+total-below (suc n) f g h = ap₂ _+_ (total-below n f g (λ i k. h i (omega arith))) (h n (omega arith))
+
+-- the same blocks by vectors that are the same
+pub tiles-same : (per : ℕ) (p : Plane) (x y : ℕ) (f g : ℕ → Mv) → ((b : ℕ) → b < per * per → f b ≡ g b) → length (tilesOf per p x y f) ≡ length (tilesOf per p x y g)
+unfolding tilesOf
+tiles-same per p x y f g h = joined-same (per * per) h
+  where
+    joined-same : (n : ℕ) → ((b : ℕ) → b < n → f b ≡ g b)
+        → length (joined n (λ b. blockOf 4 p (x + b % per * 4) (y + b / per * 4) (f b))) ≡ length (joined n (λ b. blockOf 4 p (x + b % per * 4) (y + b / per * 4) (g b)))
+    joined-same n h = length-joined n _ ∙ total-below n _ _ (λ b k. ap (λ (v : Mv). length (blockOf 4 p (x + b % per * 4) (y + b / per * 4) v)) (h b k)) ∙ sym (length-joined n _)

@@ -14,3 +14,4 @@ pub use predict::predict_split_mv_lowered;
 // number 8 of two vectors, and what is answered with a number alone
 pub use predict::fraction_left;
 pub use predict::refused;
+pub use predict::refused_report;

@@ -1,10 +1,11 @@
 // Prediction of a macroblock from three planes beside a record of their sizes: whole, at whole pixels, split, merging, and by version. Each
-// call takes everything and refuses by number, with samples of zeros.
+// call takes everything, refuses by number, with samples of zeros, and reports how many samples it fetched.
 ghost use mathlib.Core.Path.{_≡_};
 ghost use mathlib.Core.Bool.{cond, _&&_};
 ghost use Rattle.rfc6386.specs.Vector.{fullPixel, isWhole};
 ghost use Rattle.rfc6386.specs.Macroblock as macroblock;
-ghost use Rattle.rfc6386.specs.Macroblock.{lent, whole, split, wholePixel, noSamples};
+ghost use Rattle.rfc6386.specs.Macroblock.{lent, noSamples};
+ghost use Rattle.rfc6386.specs.Report.{wholeReport, wholePixelReport, splitReport, mergingReport};
 ghost use Rattle.prediction.specs.Luma.{ButLuma};
 use crate::split::split_chroma;
 use crate::split::split_luma;
@@ -27,6 +28,7 @@ use rfc6386::FilterSet;
 use rfc6386::Mv;
 use rfc6386::Prediction;
 use rfc6386::ReconstructedMb;
+use rfc6386::Report;
 use rfc6386::Sizes;
 
 // What a call answers that refuses by this number.
@@ -43,6 +45,16 @@ pub fn refused(number: u32) -> Prediction
     }
 }
 
+// The same, and that nothing was fetched.
+pub fn refused_report(number: u32) -> Report
+    ensures { λ r. ⌜ r ≡ record { prediction = record { number = number; samples = noSamples }; fetched = 0 } ⌝ }
+{
+    Report {
+        prediction: refused(number),
+        fetched: 0,
+    }
+}
+
 // One vector for the macroblock. Whether luma, and whether chroma, is lowered to whole pixels is said apart.
 pub fn predict_inter_mb_lowered(
     y: &[u8],
@@ -55,28 +67,33 @@ pub fn predict_inter_mb_lowered(
     lower_luma: bool,
     lower_chroma: bool,
     set: FilterSet,
-) -> Prediction
-    ensures { λ r. ⌜ r ≡ whole set (record { luma = «lower_luma»; chroma = «lower_chroma» }) (lent (now (y .entry)) (now (u .entry)) (now (v .entry)) sizes) «mb_col» «mb_row» «luma_mv» ⌝ }
+) -> Report
+    ensures { λ r. ⌜ r ≡ wholeReport set (record { luma = «lower_luma»; chroma = «lower_chroma» }) (lent (now (y .entry)) (now (u .entry)) (now (v .entry)) sizes) «mb_col» «mb_row» «luma_mv» ⌝ }
 {
     let number = refusal(y, u, v, sizes, mb_col, mb_row);
     if number != 0 {
-        return refused(number);
+        return refused_report(number);
     }
     let luma = luma_vector(luma_mv, lower_luma);
     let chroma = chroma_vector(luma_mv, lower_chroma);
     let y_at = place_of(sizes.y_stride, sizes, mb_col, mb_row, 16);
     let u_at = place_of(sizes.u_stride, sizes, mb_col, mb_row, 8);
     let v_at = place_of(sizes.v_stride, sizes, mb_col, mb_row, 8);
-    let chroma_blocks = blocks_of_8(u, u_at, v, v_at, chroma, set);
+    let mut of_luma: u64 = 0;
+    let mut of_chroma: u64 = 0;
+    let chroma_blocks = blocks_of_8(u, u_at, v, v_at, chroma, set, &mut of_chroma);
     let u_samples = chroma_blocks.u;
     let v_samples = chroma_blocks.v;
-    Prediction {
-        number,
-        samples: ReconstructedMb {
-            y: block_of_16(y, y_at, luma, set),
-            u: u_samples,
-            v: v_samples,
+    Report {
+        prediction: Prediction {
+            number,
+            samples: ReconstructedMb {
+                y: block_of_16(y, y_at, luma, set, &mut of_luma),
+                u: u_samples,
+                v: v_samples,
+            },
         },
+        fetched: of_luma + of_chroma,
     }
 }
 
@@ -91,8 +108,8 @@ pub fn predict_inter_mb(
     luma_mv: Mv,
     full_pixel: bool,
     set: FilterSet,
-) -> Prediction
-    ensures { λ r. ⌜ r ≡ whole set (fullPixel «full_pixel») (lent (now (y .entry)) (now (u .entry)) (now (v .entry)) sizes) «mb_col» «mb_row» «luma_mv» ⌝ }
+) -> Report
+    ensures { λ r. ⌜ r ≡ wholeReport set (fullPixel «full_pixel») (lent (now (y .entry)) (now (u .entry)) (now (v .entry)) sizes) «mb_col» «mb_row» «luma_mv» ⌝ }
 {
     predict_inter_mb_lowered(
         y,
@@ -131,8 +148,8 @@ pub fn predict_inter_mb_whole_pixel(
     mb_row: usize,
     luma_mv: Mv,
     full_pixel: bool,
-) -> Prediction
-    ensures { λ r. ⌜ r ≡ wholePixel (fullPixel «full_pixel») (lent (now (y .entry)) (now (u .entry)) (now (v .entry)) sizes) «mb_col» «mb_row» «luma_mv» ⌝ }
+) -> Report
+    ensures { λ r. ⌜ r ≡ wholePixelReport (fullPixel «full_pixel») (lent (now (y .entry)) (now (u .entry)) (now (v .entry)) sizes) «mb_col» «mb_row» «luma_mv» ⌝ }
 {
     let luma = luma_vector(luma_mv, full_pixel);
     let chroma = chroma_vector(luma_mv, full_pixel);
@@ -140,18 +157,24 @@ pub fn predict_inter_mb_whole_pixel(
     let by_fraction = fraction_left(luma, chroma);
     let number = or_else(by_place, by_fraction);
     if number != 0 {
-        return refused(number);
+        return refused_report(number);
     }
     let y_at = place_of(sizes.y_stride, sizes, mb_col, mb_row, 16);
     let u_at = place_of(sizes.u_stride, sizes, mb_col, mb_row, 8);
     let v_at = place_of(sizes.v_stride, sizes, mb_col, mb_row, 8);
-    Prediction {
-        number,
-        samples: ReconstructedMb {
-            y: pixels_of_16(y, y_at, luma),
-            u: pixels_of_8(u, u_at, chroma),
-            v: pixels_of_8(v, v_at, chroma),
+    let mut of_y: u64 = 0;
+    let mut of_u: u64 = 0;
+    let mut of_v: u64 = 0;
+    Report {
+        prediction: Prediction {
+            number,
+            samples: ReconstructedMb {
+                y: pixels_of_16(y, y_at, luma, &mut of_y),
+                u: pixels_of_8(u, u_at, chroma, &mut of_u),
+                v: pixels_of_8(v, v_at, chroma, &mut of_v),
+            },
         },
+        fetched: of_y + (of_u + of_v),
     }
 }
 
@@ -172,9 +195,10 @@ pub fn split_but_luma(
     split_luma_mvs: [Mv; 16],
     lower_chroma: bool,
     set: FilterSet,
+    fetched: &mut u64,
 ) -> Rest
     requires { ⌜ macroblock.refusal (lent (now y) (now u) (now v) sizes) «mb_col» «mb_row» ≡ 0 ⌝ }
-    ensures { λ r. ⌜ ButLuma set «lower_chroma» (lent (now (y .entry)) (now (u .entry)) (now (v .entry)) sizes) «mb_col» «mb_row» «split_luma_mvs» r ⌝ }
+    ensures { λ r. ⌜ ButLuma set «lower_chroma» (lent (now (y .entry)) (now (u .entry)) (now (v .entry)) sizes) «mb_col» «mb_row» «split_luma_mvs» r (now (fetched .exit)) ⌝ }
 {
     let mvs = quarter_vectors(split_luma_mvs, lower_chroma);
     let luma_at = place_of(sizes.y_stride, sizes, mb_col, mb_row, 16);
@@ -182,7 +206,7 @@ pub fn split_but_luma(
     let v_at = place_of(sizes.v_stride, sizes, mb_col, mb_row, 8);
     Rest {
         luma_at,
-        chroma: split_chroma(u, u_at, v, v_at, mvs, set),
+        chroma: split_chroma(u, u_at, v, v_at, mvs, set, fetched),
     }
 }
 
@@ -198,13 +222,15 @@ pub fn predict_split_mv_lowered(
     lower_luma: bool,
     lower_chroma: bool,
     set: FilterSet,
-) -> Prediction
-    ensures { λ r. ⌜ r ≡ split set (record { luma = «lower_luma»; chroma = «lower_chroma» }) (lent (now (y .entry)) (now (u .entry)) (now (v .entry)) sizes) «mb_col» «mb_row» «split_luma_mvs» ⌝ }
+) -> Report
+    ensures { λ r. ⌜ r ≡ splitReport set (record { luma = «lower_luma»; chroma = «lower_chroma» }) (lent (now (y .entry)) (now (u .entry)) (now (v .entry)) sizes) «mb_col» «mb_row» «split_luma_mvs» ⌝ }
 {
     let number = refusal(y, u, v, sizes, mb_col, mb_row);
     if number != 0 {
-        return refused(number);
+        return refused_report(number);
     }
+    let mut of_luma: u64 = 0;
+    let mut of_chroma: u64 = 0;
     let rest = split_but_luma(
         y,
         u,
@@ -215,18 +241,22 @@ pub fn predict_split_mv_lowered(
         split_luma_mvs,
         lower_chroma,
         set,
+        &mut of_chroma,
     );
     let luma_at = rest.luma_at;
     let chroma = rest.chroma;
     let u_samples = chroma.u;
     let v_samples = chroma.v;
-    Prediction {
-        number,
-        samples: ReconstructedMb {
-            y: split_luma(y, luma_at, split_luma_mvs, lower_luma, set),
-            u: u_samples,
-            v: v_samples,
+    Report {
+        prediction: Prediction {
+            number,
+            samples: ReconstructedMb {
+                y: split_luma(y, luma_at, split_luma_mvs, lower_luma, set, &mut of_luma),
+                u: u_samples,
+                v: v_samples,
+            },
         },
+        fetched: of_luma + of_chroma,
     }
 }
 
@@ -241,8 +271,8 @@ pub fn predict_split_mv(
     split_luma_mvs: [Mv; 16],
     full_pixel: bool,
     set: FilterSet,
-) -> Prediction
-    ensures { λ r. ⌜ r ≡ split set (fullPixel «full_pixel») (lent (now (y .entry)) (now (u .entry)) (now (v .entry)) sizes) «mb_col» «mb_row» «split_luma_mvs» ⌝ }
+) -> Report
+    ensures { λ r. ⌜ r ≡ splitReport set (fullPixel «full_pixel») (lent (now (y .entry)) (now (u .entry)) (now (v .entry)) sizes) «mb_col» «mb_row» «split_luma_mvs» ⌝ }
 {
     predict_split_mv_lowered(
         y,
@@ -258,7 +288,7 @@ pub fn predict_split_mv(
     )
 }
 
-// Split prediction, by one whole prediction where the sixteen vectors are one.
+// Split prediction, by one whole prediction where the sixteen vectors are one: the count says so.
 pub fn predict_merging(
     y: &[u8],
     u: &[u8],
@@ -269,21 +299,12 @@ pub fn predict_merging(
     split_luma_mvs: [Mv; 16],
     full_pixel: bool,
     set: FilterSet,
-) -> Prediction
-    ensures { λ r. ⌜ r ≡ split set (fullPixel «full_pixel») (lent (now (y .entry)) (now (u .entry)) (now (v .entry)) sizes) «mb_col» «mb_row» «split_luma_mvs» ⌝ }
+) -> Report
+    ensures { λ r. ⌜ r ≡ mergingReport set (fullPixel «full_pixel») (lent (now (y .entry)) (now (u .entry)) (now (v .entry)) sizes) «mb_col» «mb_row» «split_luma_mvs» ⌝ }
 {
     if are_one(split_luma_mvs) {
-        return predict_inter_mb(
-            y,
-            u,
-            v,
-            sizes,
-            mb_col,
-            mb_row,
-            split_luma_mvs[0],
-            full_pixel,
-            set,
-        );
+        let first = split_luma_mvs[0];
+        return predict_inter_mb(y, u, v, sizes, mb_col, mb_row, first, full_pixel, set);
     }
     predict_split_mv(
         y,

@@ -1,10 +1,12 @@
-// The planes of a split macroblock: each 4x4 block is predicted on its own and put in its place.
+// The planes of a split macroblock: each 4x4 block is predicted on its own and put in its place. What the blocks fetch is added up.
 ghost use mathlib.Core.Path.{_≡_};
 ghost use Prim.Native.Nat.{_+_, _<_, _≤_};
 ghost use mathlib.Core.Bool.{Bool};
-ghost use lib.ListN.{getD};
+ghost use mathlib.Core.List.{_++_};
+ghost use lib.ListN.{length};
 ghost use Rattle.rfc6386.specs.Vector as vector;
 ghost use Rattle.rfc6386.specs.Picture as picture;
+ghost use Rattle.rfc6386.specs.Fetched.{tilesOf};
 ghost use Rattle.rfc6386.specs.Macroblock as macroblock;
 ghost use Rattle.blocks.specs.Places.{planeAt, Alike};
 ghost use Rattle.prediction.specs.Tiles.{Starts};
@@ -32,17 +34,26 @@ pub fn from(at: Place, x: usize, y: usize) -> Place
 }
 
 // Sixteen luma blocks, each by its own vector as it was sent.
-pub fn split_luma(plane: &[u8], at: Place, mvs: [Mv; 16], lower: bool, set: FilterSet) -> [u8; 256]
+pub fn split_luma(
+    plane: &[u8],
+    at: Place,
+    mvs: [Mv; 16],
+    lower: bool,
+    set: FilterSet,
+    fetched: &mut u64,
+) -> [u8; 256]
     requires { ⌜ Starts (planeAt (now plane) at) (at .x) (at .y) 16 ⌝ }
     ensures { λ r. ⌜ r ≡ picture.blockBy 16 set (picture.image (planeAt (now (plane .entry)) at)) (at .x) (at .y) (λ r c. vector.lumaVector (vector.fullPixel lower) (vector.sent mvs (macroblock.subblock r c))) ⌝ }
+    ensures { λ _. ⌜ now (fetched .exit) ≡ length (tilesOf 4 (planeAt (now (plane .entry)) at) (at .x) (at .y) (λ b. vector.lumaVector (vector.fullPixel lower) (vector.sent mvs b))) ⌝ }
 {
     let mut out = [0u8; 256];
+    let mut total: u64 = 0;
     let mut b: usize = 0;
     while b < 16 {
         let x = b % 4 * 4;
         let y = b / 4 * 4;
         let mv = luma_vector(mvs[b], lower);
-        tile_into(
+        total += tile_into(
             plane,
             from(at, x, y),
             mv,
@@ -52,6 +63,7 @@ pub fn split_luma(plane: &[u8], at: Place, mvs: [Mv; 16], lower: bool, set: Filt
         );
         b += 1;
     }
+    *fetched = total;
     out
 }
 
@@ -63,19 +75,22 @@ pub fn split_chroma(
     v_at: Place,
     mvs: [Mv; 4],
     set: FilterSet,
+    fetched: &mut u64,
 ) -> Chroma
     requires { ⌜ Starts (planeAt (now u) «u_at») («u_at» .x) («u_at» .y) 8 ⌝ }
     requires { ⌜ Starts (planeAt (now v) «v_at») («v_at» .x) («v_at» .y) 8 ⌝ }
     requires { ⌜ Alike «u_at» «v_at» ⌝ }
     ensures { λ r. ⌜ r ≡ record { u = picture.blockBy 8 set (picture.image (planeAt (now (u .entry)) «u_at»)) («u_at» .x) («u_at» .y) (λ r c. vector.sent mvs (macroblock.quarter r c)); v = picture.blockBy 8 set (picture.image (planeAt (now (v .entry)) «v_at»)) («v_at» .x) («v_at» .y) (λ r c. vector.sent mvs (macroblock.quarter r c)) } ⌝ }
+    ensures { λ _. ⌜ now (fetched .exit) ≡ length (tilesOf 2 (planeAt (now (u .entry)) «u_at») («u_at» .x) («u_at» .y) (vector.sent mvs) ++ tilesOf 2 (planeAt (now (v .entry)) «v_at») («v_at» .x) («v_at» .y) (vector.sent mvs)) ⌝ }
 {
     let mut u_out = [0u8; 64];
     let mut v_out = [0u8; 64];
+    let mut total: u64 = 0;
     let mut b: usize = 0;
     while b < 4 {
         let x = b % 2 * 4;
         let y = b / 2 * 4;
-        pair_into(
+        total += pair_into(
             u,
             from(u_at, x, y),
             v,
@@ -88,5 +103,6 @@ pub fn split_chroma(
         );
         b += 1;
     }
+    *fetched = total;
     Chroma { u: u_out, v: v_out }
 }

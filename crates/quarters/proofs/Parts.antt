@@ -1,5 +1,5 @@
 -- Squares and their quarters, over the side. Assumes nothing.
-use mathlib.Core.Path.{_≡_, refl, sym, ap, ap₂, _∙_}
+use mathlib.Core.Path.{_≡_, refl, sym, ap, ap₂, _∙_, subst}
 use mathlib.Core.Bool.{Bool, true, false, cond, _&&_, _||_}
 use mathlib.Core.Logic.{inl, inr}
 use mathlib.Core.List.{List}
@@ -9,10 +9,13 @@ use lib.ListN.{length, getD}
 use lib.Seq.{ext-getD}
 use Rattle.rfc6386.specs.Raster.{within}
 use Rattle.rfc6386.specs.Vector.{Lowering, lumaVector, sent}
-use Rattle.rfc6386.specs.Picture.{Image, block, blockBy}
+use Rattle.rfc6386.specs.Picture.{Plane, Image, block, blockBy}
+use Rattle.rfc6386.specs.Fetched.{blockOf, tilesOf}
 use Rattle.rfc6386.specs.Macroblock.{subblock}
+use Rattle.rfc6386.specs.Report.{oneIn, luma}
 use Rattle.rfc6386.specs.Laws.Raster.{raster-ext, getD-written, length-written, written-ext, written-all, Within, within-is}
 use Rattle.rfc6386.specs.Laws.Blocks.{block-at, block-part}
+use Rattle.rfc6386.specs.Laws.Fetched.{cost, length-block, length-tiles, cost-most, total-most, one-in, luma-apart, luma-one, luma-least, luma-split, luma-most}
 use Rattle.rfc6386.specs.declared.Mv.{Mv}
 use Rattle.rfc6386.specs.declared.FilterSet.{FilterSet}
 use Rattle.steps.specs.Rows.{Room}
@@ -214,3 +217,67 @@ part-all set img x y f out e =
     (λ r c hr hc.
     let k : (0 + r) * 16 + (0 + c) ≡ r * 16 + c = omega arith in
     ap (λ (i : ℕ). getD (blockBy 16 set img x y f) i 0) k ∙ block-at 16 set img x y f r c hr hc)
+
+-- ---- what a square fetches
+module _ (low : Lowering) (p : Plane) (at-x at-y : ℕ) (mvs : List Mv) where
+  abbrev count : ℕ → ℕ → ℕ → ℕ
+  count n x y = length (luma (n / 8) low p at-x at-y mvs x y)
+
+  abbrev once : ℕ → ℕ → ℕ → ℕ
+  once n x y = length (blockOf n p (at-x + x) (at-y + y) (lumaVector low (sent mvs (subblock y x))))
+
+  pub not-one : (x y n : ℕ) → (OneVector mvs x y n → ⊥) → oneIn mvs x y n ≡ false
+  not-one x y n h = at (oneIn mvs x y n) refl
+    where
+      at : (b : Bool) → oneIn mvs x y n ≡ b → b ≡ false
+      at true e = absurd (h (record { alike = one-in mvs x y n .0 e }))
+      at false e = refl
+
+  -- one vector: in one go
+  pub count-one : (x y n : ℕ) → Side n → OneVector mvs x y n → once n x y ≡ count n x y
+  count-one x y n (inl e) O = subst (λ (k : ℕ). once k x y ≡ count k x y) (sym e) (sym (luma-least low p at-x at-y mvs x y))
+  count-one x y n (inr (inl e)) O =
+      subst (λ (k : ℕ). once k x y ≡ count k x y) (sym e) (sym (luma-one low p at-x at-y mvs 0 x y (one-in mvs x y 8 .1 (subst (OneVector mvs x y) e O .alike))))
+  count-one x y n (inr (inr e)) O =
+      subst (λ (k : ℕ). once k x y ≡ count k x y) (sym e) (sym (luma-one low p at-x at-y mvs 1 x y (one-in mvs x y 16 .1 (subst (OneVector mvs x y) e O .alike))))
+
+  -- more than one: by its quarters
+  abbrev fours : ℕ → ℕ → ℕ → ℕ
+  fours n x y = let h = n / 2 in count h x y + count h (x + h) y + count h x (y + h) + count h (x + h) (y + h)
+
+  pub count-four : (x y n : ℕ) → Side n → (OneVector mvs x y n → ⊥) → (n ≡ 4 → ⊥) → fours n x y ≡ count n x y
+  count-four x y n (inl e) O four = absurd (four e)
+  count-four x y n (inr (inl e)) O four =
+      subst (λ (k : ℕ). fours k x y ≡ count k x y) (sym e) (omega (arith, luma-apart low p at-x at-y mvs 0 x y (not-one x y 8 (λ o. O (subst (OneVector mvs x y) (sym e) o)))))
+  count-four x y n (inr (inr e)) O four =
+      subst (λ (k : ℕ). fours k x y ≡ count k x y) (sym e) (omega (arith, luma-apart low p at-x at-y mvs 1 x y (not-one x y 16 (λ o. O (subst (OneVector mvs x y) (sym e) o)))))
+
+  -- and they are few
+  least-few : (x y : ℕ) → length (luma 0 low p at-x at-y mvs x y) ≤ 81
+  least-few x y =
+      let v = lumaVector low (sent mvs (subblock y x)) in
+      omega (arith, luma-least low p at-x at-y mvs x y, length-block 4 p (at-x + x) (at-y + y) v, cost-most 4 v)
+
+  quarter-few : (x y : ℕ) → length (luma 1 low p at-x at-y mvs x y) ≤ 324
+  quarter-few x y = at (oneIn mvs x y 8) refl
+    where
+      at : (b : Bool) → oneIn mvs x y 8 ≡ b → length (luma 1 low p at-x at-y mvs x y) ≤ 324
+      at true e =
+          let v = lumaVector low (sent mvs (subblock y x)) in
+          omega (arith, luma-one low p at-x at-y mvs 0 x y e, length-block 8 p (at-x + x) (at-y + y) v, cost-most 8 v)
+      at false e = omega (arith, luma-apart low p at-x at-y mvs 0 x y e, least-few x y, least-few (x + 4) y, least-few x (y + 4), least-few (x + 4) (y + 4))
+
+  pub count-few : (x y n : ℕ) → Side n → n < 16 → count n x y ≤ 324
+  count-few x y n (inl e) h = subst (λ (k : ℕ). count k x y ≤ 324) (sym e) (omega (arith, least-few x y))
+  count-few x y n (inr (inl e)) h = subst (λ (k : ℕ). count k x y ≤ 324) (sym e) (quarter-few x y)
+  count-few x y n (inr (inr e)) h = absurd (omega arith)
+
+  -- all of it: never more than sixteen blocks, and those where no quarter has one vector
+  pub count-most : count 16 0 0 ≤ 1296
+  count-most = omega (arith, luma-most low p at-x at-y mvs, total-most 16 81 (λ b. cost 4 (lumaVector low (sent mvs b))) (λ b h. cost-most 4 (lumaVector low (sent mvs b))))
+
+  pub count-split : ((q : ℕ) → q < 4 → OneVector mvs (q % 2 * 8) (q / 2 * 8) 8 → ⊥)
+      → length (tilesOf 4 p at-x at-y (λ b. lumaVector low (sent mvs b))) ≡ count 16 0 0
+  count-split none =
+      length-tiles 4 p at-x at-y (λ b. lumaVector low (sent mvs b))
+      ∙ sym (luma-split low p at-x at-y mvs (λ q h. not-one (q % 2 * 8) (q / 2 * 8) 8 (none q h)))

@@ -1,13 +1,14 @@
 // Split prediction that merges its luma by quarters: a square whose vectors are all equal is predicted in one go, and of any other each
 // quarter follows the same rule, down to side 4. Vectors are compared as they were sent.
 ghost use mathlib.Core.Path.{_≡_};
-ghost use mathlib.Core.Bool.{true};
+ghost use mathlib.Core.Bool.{true, false};
 ghost use mathlib.Core.Logic.{_↔_};
-ghost use Prim.Native.Nat.{ℕ, _+_, _≤_, _<_};
+ghost use Prim.Native.Nat.{ℕ, _+_, _*_, _/_, _%_, _≤_, _<_};
 ghost use lib.ListN.{length};
 ghost use Rattle.rfc6386.specs.Vector as vector;
 ghost use Rattle.rfc6386.specs.Picture as picture;
 ghost use Rattle.rfc6386.specs.Macroblock as macroblock;
+ghost use Rattle.rfc6386.specs.Report as report;
 ghost use Rattle.blocks.specs.Places.{planeAt};
 ghost use Rattle.prediction.specs.Tiles.{Starts};
 ghost use Rattle.quarters.specs.Parts.{Square, part, OneVector};
@@ -16,7 +17,7 @@ use blocks::sided::sided_into;
 use motion_vectors::luma_vector;
 use motion_vectors::same;
 use prediction::predict::split_but_luma;
-use prediction::refused;
+use prediction::refused_report;
 use prediction::split::from;
 use prediction::split::split_luma;
 use refusals::refusal;
@@ -24,6 +25,7 @@ use rfc6386::FilterSet;
 use rfc6386::Mv;
 use rfc6386::Prediction;
 use rfc6386::ReconstructedMb;
+use rfc6386::Report;
 use rfc6386::Sizes;
 use steps::rect::Spot;
 
@@ -60,7 +62,7 @@ fn one_vector(mvs: [Mv; 16], x: usize, y: usize, side: usize) -> bool
     true
 }
 
-// The square of this side at column x, row y of a macroblock's luma, which stands at `at` in the plane.
+// The square of this side at column x, row y of a macroblock's luma, which stands at `at` in the plane; gives how many samples it fetched.
 fn luma_square(
     plane: &[u8],
     at: Place,
@@ -71,27 +73,30 @@ fn luma_square(
     x: usize,
     y: usize,
     side: usize,
-)
+) -> u64
     requires { ⌜ Starts (planeAt (now plane) at) (at .x) (at .y) 16 ⌝ }
     requires { ⌜ Square x y side ⌝ }
     requires { ⌜ length (now out) ≡ 256 ⌝ }
     ensures { λ _. ⌜ now (out .exit) ≡ part (picture.blockBy 16 set (picture.image (planeAt (now (plane .entry)) at)) (at .x) (at .y) (λ r c. vector.lumaVector (vector.fullPixel lower) (vector.sent mvs (macroblock.subblock r c)))) (now (out .entry)) x y side ⌝ }
+    ensures { λ r. ⌜ r ≡ length (report.luma (side / 8) (vector.fullPixel lower) (planeAt (now (plane .entry)) at) (at .x) (at .y) mvs x y) ⌝ }
 {
     if one_vector(mvs, x, y, side) {
         let mv = luma_vector(mvs[y / 4 * 4 + x / 4], lower);
         let here = from(at, x, y);
-        sided_into(plane, here, mv, set, side, out, Spot { stride: 16, x, y });
-        return;
+        return sided_into(plane, here, mv, set, side, out, Spot { stride: 16, x, y });
     }
     let half = side / 2;
-    luma_square(plane, at, mvs, lower, set, out, x, y, half);
-    luma_square(plane, at, mvs, lower, set, out, x + half, y, half);
-    luma_square(plane, at, mvs, lower, set, out, x, y + half, half);
-    luma_square(plane, at, mvs, lower, set, out, x + half, y + half, half);
+    let first = luma_square(plane, at, mvs, lower, set, out, x, y, half);
+    let second = luma_square(plane, at, mvs, lower, set, out, x + half, y, half);
+    let third = luma_square(plane, at, mvs, lower, set, out, x, y + half, half);
+    let fourth = luma_square(plane, at, mvs, lower, set, out, x + half, y + half, half);
+    first + second + third + fourth
 }
 
-// Some quarter of the macroblock has one vector. Nothing rests on it but the time that a call takes.
-fn merges(mvs: [Mv; 16]) -> bool {
+// Some quarter of the macroblock has one vector.
+fn merges(mvs: [Mv; 16]) -> bool
+    ensures { λ r. ⌜ (r ≡ false → (q : ℕ) → q < 4 → OneVector mvs (q % 2 * 8) (q / 2 * 8) 8 → ⊥) ⌝ }
+{
     let mut q: usize = 0;
     while q < 4 {
         if one_vector(mvs, q % 2 * 8, q / 2 * 8, 8) {
@@ -103,15 +108,23 @@ fn merges(mvs: [Mv; 16]) -> bool {
 }
 
 // The luma of a split macroblock.
-fn quarters_luma(plane: &[u8], at: Place, mvs: [Mv; 16], lower: bool, set: FilterSet) -> [u8; 256]
+fn quarters_luma(
+    plane: &[u8],
+    at: Place,
+    mvs: [Mv; 16],
+    lower: bool,
+    set: FilterSet,
+    fetched: &mut u64,
+) -> [u8; 256]
     requires { ⌜ Starts (planeAt (now plane) at) (at .x) (at .y) 16 ⌝ }
     ensures { λ r. ⌜ r ≡ picture.blockBy 16 set (picture.image (planeAt (now (plane .entry)) at)) (at .x) (at .y) (λ r c. vector.lumaVector (vector.fullPixel lower) (vector.sent mvs (macroblock.subblock r c))) ⌝ }
+    ensures { λ _. ⌜ now (fetched .exit) ≡ length (report.luma 2 (vector.fullPixel lower) (planeAt (now (plane .entry)) at) (at .x) (at .y) mvs 0 0) ⌝ }
 {
     if !merges(mvs) {
-        return split_luma(plane, at, mvs, lower, set);
+        return split_luma(plane, at, mvs, lower, set, fetched);
     }
     let mut out = [0u8; 256];
-    luma_square(plane, at, mvs, lower, set, &mut out, 0, 0, 16);
+    *fetched = luma_square(plane, at, mvs, lower, set, &mut out, 0, 0, 16);
     out
 }
 
@@ -126,13 +139,15 @@ pub fn predict_quarters(
     split_luma_mvs: [Mv; 16],
     full_pixel: bool,
     set: FilterSet,
-) -> Prediction
-    ensures { λ r. ⌜ r ≡ macroblock.split set (vector.fullPixel «full_pixel») (macroblock.lent (now (y .entry)) (now (u .entry)) (now (v .entry)) sizes) «mb_col» «mb_row» «split_luma_mvs» ⌝ }
+) -> Report
+    ensures { λ r. ⌜ r ≡ report.quartersReport set (vector.fullPixel «full_pixel») (macroblock.lent (now (y .entry)) (now (u .entry)) (now (v .entry)) sizes) «mb_col» «mb_row» «split_luma_mvs» ⌝ }
 {
     let number = refusal(y, u, v, sizes, mb_col, mb_row);
     if number != 0 {
-        return refused(number);
+        return refused_report(number);
     }
+    let mut of_luma: u64 = 0;
+    let mut of_chroma: u64 = 0;
     let rest = split_but_luma(
         y,
         u,
@@ -143,17 +158,21 @@ pub fn predict_quarters(
         split_luma_mvs,
         full_pixel,
         set,
+        &mut of_chroma,
     );
     let luma_at = rest.luma_at;
     let chroma = rest.chroma;
     let u_samples = chroma.u;
     let v_samples = chroma.v;
-    Prediction {
-        number,
-        samples: ReconstructedMb {
-            y: quarters_luma(y, luma_at, split_luma_mvs, full_pixel, set),
-            u: u_samples,
-            v: v_samples,
+    Report {
+        prediction: Prediction {
+            number,
+            samples: ReconstructedMb {
+                y: quarters_luma(y, luma_at, split_luma_mvs, full_pixel, set, &mut of_luma),
+                u: u_samples,
+                v: v_samples,
+            },
         },
+        fetched: of_luma + of_chroma,
     }
 }

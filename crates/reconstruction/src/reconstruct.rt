@@ -27,8 +27,8 @@ pub fn reconstruct_inter_mb_whole_pixel(
 ) -> Prediction
     ensures { λ r. ⌜ r ≡ wholeFinished «mb_skip_coeff» (now (coefficients .entry)) (wholePixel (fullPixel «full_pixel») (lent (now (y .entry)) (now (u .entry)) (now (v .entry)) sizes) «mb_col» «mb_row» «luma_mv») ⌝ }
 {
-    let p = predict_inter_mb_whole_pixel(y, u, v, sizes, mb_col, mb_row, luma_mv, full_pixel);
-    finish_whole(p, mb_skip_coeff, coefficients)
+    let report = predict_inter_mb_whole_pixel(y, u, v, sizes, mb_col, mb_row, luma_mv, full_pixel);
+    finish_whole(report.prediction, mb_skip_coeff, coefficients)
 }
 
 pub fn reconstruct_inter_mb(
@@ -46,8 +46,8 @@ pub fn reconstruct_inter_mb(
 ) -> Prediction
     ensures { λ r. ⌜ r ≡ wholeFinished «mb_skip_coeff» (now (coefficients .entry)) (whole set (fullPixel «full_pixel») (lent (now (y .entry)) (now (u .entry)) (now (v .entry)) sizes) «mb_col» «mb_row» «luma_mv») ⌝ }
 {
-    let p = predict_inter_mb(y, u, v, sizes, mb_col, mb_row, luma_mv, full_pixel, set);
-    finish_whole(p, mb_skip_coeff, coefficients)
+    let report = predict_inter_mb(y, u, v, sizes, mb_col, mb_row, luma_mv, full_pixel, set);
+    finish_whole(report.prediction, mb_skip_coeff, coefficients)
 }
 
 pub fn reconstruct_split_mv_mb(
@@ -65,7 +65,7 @@ pub fn reconstruct_split_mv_mb(
 ) -> Prediction
     ensures { λ r. ⌜ r ≡ splitFinished «mb_skip_coeff» (now (coefficients .entry)) (split set (fullPixel «full_pixel») (lent (now (y .entry)) (now (u .entry)) (now (v .entry)) sizes) «mb_col» «mb_row» «split_luma_mvs») ⌝ }
 {
-    let p = predict_split_mv(
+    let report = predict_split_mv(
         y,
         u,
         v,
@@ -76,5 +76,5 @@ pub fn reconstruct_split_mv_mb(
         full_pixel,
         set,
     );
-    finish_split(p, mb_skip_coeff, coefficients)
+    finish_split(report.prediction, mb_skip_coeff, coefficients)
 }

@@ -64,8 +64,8 @@ fn whole(y: &[u8], u: &[u8], v: &[u8], sizes: Sizes, r: &[u8], t: Tally) -> Tall
     let filter = byte_at(r, 3);
     let mv = mv_of(part(r, 5, 4));
     let answer = part(r, 9, 384);
-    let p = predict_inter_mb(y, u, v, sizes, col, row, mv, flag != 0, set_of(filter));
-    let held = counted(t, 24, is(p, answer));
+    let report = predict_inter_mb(y, u, v, sizes, col, row, mv, flag != 0, set_of(filter));
+    let held = counted(t, 24, is(report.prediction, answer));
     if !has_version(filter, flag) {
         return held;
     }
@@ -80,10 +80,10 @@ fn split(y: &[u8], u: &[u8], v: &[u8], sizes: Sizes, r: &[u8], t: Tally) -> Tall
     let filter = byte_at(r, 3);
     let mvs = mvs_of(part(r, 5, 64));
     let answer = part(r, 69, 384);
-    let p = predict_split_mv(y, u, v, sizes, col, row, mvs, flag != 0, set_of(filter));
-    let held = counted(t, 25, is(p, answer));
-    let m = predict_merging(y, u, v, sizes, col, row, mvs, flag != 0, set_of(filter));
-    let merged = counted(held, MERGING, is(m, answer));
+    let apart = predict_split_mv(y, u, v, sizes, col, row, mvs, flag != 0, set_of(filter));
+    let held = counted(t, 25, is(apart.prediction, answer));
+    let merging = predict_merging(y, u, v, sizes, col, row, mvs, flag != 0, set_of(filter));
+    let merged = counted(held, MERGING, is(merging.prediction, answer));
     if !has_version(filter, flag) {
         return merged;
     }

@@ -156,7 +156,8 @@ pub extern "C" fn shim_whole_pixel(
         row: mv_row,
         col: mv_col,
     };
-    let p = predict_inter_mb_whole_pixel(y, u, v, sizes, mb_col, mb_row, mv, full_pixel != 0);
+    let report = predict_inter_mb_whole_pixel(y, u, v, sizes, mb_col, mb_row, mv, full_pixel != 0);
+    let p = report.prediction;
     let samples = flat(p);
     give(p.number, &samples, out)
 }

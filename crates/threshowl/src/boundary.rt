@@ -65,7 +65,7 @@ pub extern "C" fn threshowl_predict_whole(
         col: mv_col,
     };
     let lower = full_pixel != 0;
-    whole_into(
+    let ended = whole_into(
         y,
         u,
         v,
@@ -78,7 +78,8 @@ pub extern "C" fn threshowl_predict_whole(
         set_of(filter),
         code_refusal(filter),
         out,
-    )
+    );
+    ended.number
 }
 
 #[no_mangle]
@@ -108,7 +109,7 @@ pub extern "C" fn threshowl_predict_split(
         mb_rows,
     };
     let lower = full_pixel != 0;
-    split_into(
+    let ended = split_into(
         y,
         u,
         v,
@@ -121,7 +122,8 @@ pub extern "C" fn threshowl_predict_split(
         set_of(filter),
         codes_refusal(filter, vectors.len()),
         out,
-    )
+    );
+    ended.number
 }
 
 // Split prediction, by the whole call where the sixteen vectors are one.
@@ -211,7 +213,7 @@ pub extern "C" fn threshowl_predict_quarters(
         mb_rows,
     };
     let codes = codes_refusal(filter, vectors.len());
-    quarters_into(
+    let ended = quarters_into(
         y,
         u,
         v,
@@ -223,5 +225,6 @@ pub extern "C" fn threshowl_predict_quarters(
         set_of(filter),
         codes,
         out,
-    )
+    );
+    ended.number
 }

@@ -53,7 +53,7 @@ pub extern "C" fn threshowl_predict_whole_by_version(
         row: mv_row,
         col: mv_col,
     };
-    whole_into(
+    let ended = whole_into(
         y,
         u,
         v,
@@ -66,7 +66,8 @@ pub extern "C" fn threshowl_predict_whole_by_version(
         set,
         0,
         out,
-    )
+    );
+    ended.number
 }
 
 #[no_mangle]
@@ -100,7 +101,7 @@ pub extern "C" fn threshowl_predict_split_by_version(
         mb_cols,
         mb_rows,
     };
-    split_into(
+    let ended = split_into(
         y,
         u,
         v,
@@ -113,5 +114,6 @@ pub extern "C" fn threshowl_predict_split_by_version(
         set,
         count_refusal(64, vectors.len()),
         out,
-    )
+    );
+    ended.number
 }

@@ -101,7 +101,7 @@ pub extern "C" fn threshowl_reconstruct_whole(
     let lower = full_pixel != 0;
     let late = whole_refusal(skip != 0, coefficients);
     let codes = with_late(code_refusal(filter), out.len(), late);
-    let n = whole_into(
+    let ended = whole_into(
         y,
         u,
         v,
@@ -115,8 +115,8 @@ pub extern "C" fn threshowl_reconstruct_whole(
         codes,
         out,
     );
-    if n != 0 {
-        return n;
+    if ended.number != 0 {
+        return ended.number;
     }
     finish_whole(out, coefficients, skip != 0);
     0
@@ -158,7 +158,7 @@ pub extern "C" fn threshowl_reconstruct_whole_pixel(
     let fraction = fraction_refusal(mv, lower);
     let late = or_else(fraction, whole_refusal(skip != 0, coefficients));
     let codes = with_late(0, out.len(), late);
-    let n = whole_into(
+    let ended = whole_into(
         y,
         u,
         v,
@@ -172,8 +172,8 @@ pub extern "C" fn threshowl_reconstruct_whole_pixel(
         codes,
         out,
     );
-    if n != 0 {
-        return n;
+    if ended.number != 0 {
+        return ended.number;
     }
     finish_whole(out, coefficients, skip != 0);
     0
@@ -210,7 +210,7 @@ pub extern "C" fn threshowl_reconstruct_split(
     let lower = full_pixel != 0;
     let late = split_refusal(skip != 0, coefficients);
     let codes = with_late(codes_refusal(filter, vectors.len()), out.len(), late);
-    let n = split_into(
+    let ended = split_into(
         y,
         u,
         v,
@@ -224,8 +224,8 @@ pub extern "C" fn threshowl_reconstruct_split(
         codes,
         out,
     );
-    if n != 0 {
-        return n;
+    if ended.number != 0 {
+        return ended.number;
     }
     finish_split(out, coefficients, skip != 0);
     0

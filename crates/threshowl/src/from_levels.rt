@@ -134,7 +134,7 @@ pub extern "C" fn threshowl_reconstruct_whole_pixel_from_levels(
     let fraction = fraction_refusal(mv, lower);
     let late = or_else(fraction, whole_refusal(skip != 0, &c[..n]));
     let codes = with_late(0, out.len(), late);
-    let number = whole_into(
+    let ended = whole_into(
         y,
         u,
         v,
@@ -148,8 +148,8 @@ pub extern "C" fn threshowl_reconstruct_whole_pixel_from_levels(
         codes,
         out,
     );
-    if number != 0 {
-        return number;
+    if ended.number != 0 {
+        return ended.number;
     }
     finish_whole(out, &c[..n], skip != 0);
     0

@@ -7,3 +7,4 @@ pub mod frames;
 pub mod from_levels;
 pub mod pictures;
 pub mod recordings;
+pub mod report;

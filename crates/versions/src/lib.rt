@@ -78,7 +78,7 @@ pub fn predict_inter_mb_by_version(
         return refused(VERSION);
     }
     let set = profile.set;
-    predict_inter_mb_lowered(
+    let report = predict_inter_mb_lowered(
         y,
         u,
         v,
@@ -89,7 +89,8 @@ pub fn predict_inter_mb_by_version(
         lowers_luma(profile.full_pixel, standard),
         profile.full_pixel,
         set,
-    )
+    );
+    report.prediction
 }
 
 // Split prediction likewise.
@@ -111,7 +112,7 @@ pub fn predict_split_mv_by_version(
         return refused(VERSION);
     }
     let set = profile.set;
-    predict_split_mv_lowered(
+    let report = predict_split_mv_lowered(
         y,
         u,
         v,
@@ -122,5 +123,6 @@ pub fn predict_split_mv_by_version(
         lowers_luma(profile.full_pixel, standard),
         profile.full_pixel,
         set,
-    )
+    );
+    report.prediction
 }

@@ -10,6 +10,7 @@ use prediction::predict_split_mv;
 use rfc6386::FilterSet;
 use rfc6386::Mv;
 use rfc6386::Prediction;
+use rfc6386::Report;
 use rfc6386::Sizes;
 use std::num::wrapping_add_usize;
 use versions::predict_inter_mb_by_version;
@@ -24,13 +25,17 @@ pub fn say(what: &[u8], p: Prediction) {
     outcome(what, p.number, wrapping_add_usize(not_zero(&y), of_chroma));
 }
 
+fn say_report(what: &[u8], report: Report) {
+    say(what, report.prediction);
+}
+
 fn whole(y: &[u8], u: &[u8], v: &[u8], sizes: Sizes, col: usize, row: usize) {
     let mv = Mv { row: 0, col: 0 };
-    say(
+    say_report(
         b" whole ",
         predict_inter_mb(y, u, v, sizes, col, row, mv, false, FilterSet::Sixtap),
     );
-    say(
+    say_report(
         b", whole pixel ",
         predict_inter_mb_whole_pixel(y, u, v, sizes, col, row, mv, false),
     );
@@ -42,11 +47,11 @@ fn whole(y: &[u8], u: &[u8], v: &[u8], sizes: Sizes, col: usize, row: usize) {
 
 fn split(y: &[u8], u: &[u8], v: &[u8], sizes: Sizes, col: usize, row: usize) {
     let mvs = [Mv { row: 0, col: 0 }; 16];
-    say(
+    say_report(
         b", split ",
         predict_split_mv(y, u, v, sizes, col, row, mvs, false, FilterSet::Sixtap),
     );
-    say(
+    say_report(
         b", merging ",
         predict_merging(y, u, v, sizes, col, row, mvs, false, FilterSet::Sixtap),
     );
@@ -182,7 +187,7 @@ fn whole_pixel(what: &[u8], row: i16, col: i16, full_pixel: bool) {
     };
     let y = [200u8; 256];
     let uv = [200u8; 64];
-    say(
+    say_report(
         what,
         predict_inter_mb_whole_pixel(&y, &uv, &uv, sizes, 0, 0, Mv { row, col }, full_pixel),
     );

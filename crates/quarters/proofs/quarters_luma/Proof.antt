@@ -3,9 +3,17 @@ use borrow.Author.Needs.{needs}
 use mathlib.Core.Path.{refl, _∙_}
 use mathlib.Core.Logic.{inr}
 use native.Mathlib.Omega.{arith}
-use Rattle.quarters.proofs.Parts.{part-all}
+use borrow.Author.Tests.{not-true}
+use Rattle.rfc6386.specs.Vector.{fullPixel}
+use Rattle.blocks.specs.Places.{planeAt}
+use Rattle.quarters.proofs.Parts.{part-all, count-split}
 use Rattle.quarters.proofs.quarters_luma.Statement.{statement}
 use Rattle.quarters.proofs.quarters_luma.Tie as tie
+
+returns : tie.Need-returns
+returns c =
+    let a = c .before .before .before .before .before .args in
+    (c .split-luma .ensures .0, c .split-luma .ensures .1 ∙ count-split (fullPixel (a .lower)) (planeAt (a .plane .now) (a .at)) (a .at .x) (a .at .y) (a .mvs) (c .before .before .before .merges .ensures (not-true _ (c .before .before .if1 .taken))))
 
 luma-square-requires : tie.Need-luma-square-requires
 luma-square-requires c κs = (c .before .before .before .before .pre, (record { side = inr (inr refl); column = refl; row = refl; across = omega arith; down = omega arith }, refl))
@@ -15,8 +23,8 @@ quarters-luma-spec =
     tie.close
     (tie.spec
     (λ c κs. search needs)
-    (λ c κs. c .before .before .before .pre)
-    (λ c. c .split-luma .ensures)
+    (λ c κs. c .before .before .before .before .pre)
+    returns
     (λ c. search needs)
     luma-square-requires
-    (λ c. c .before .luma-square .ensures ∙ part-all _ _ _ _ _ _ refl))
+    (λ c. (c .before .luma-square .ensures .0 ∙ part-all _ _ _ _ _ _ refl, c .before .luma-square .ensures .1)))

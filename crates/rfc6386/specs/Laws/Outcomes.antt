@@ -26,6 +26,7 @@ use Rattle.rfc6386.specs.Laws.Samples.{Bytes, predicted-flat, least4, mo
 use Rattle.rfc6386.specs.Laws.Refusals.{if-zero, or-else-zero, or-else-next, done, plane-accepts, accepts}
 use Rattle.rfc6386.specs.Laws.Blocks.{AllBytes, image-bytes, block-flat, square-flat, block-at, pixel-at}
 use Rattle.rfc6386.specs.Laws.Channels.{by-channels, some-places, channel-bytes, whole-channel, split-channel, pixel-channel}
+use Rattle.rfc6386.specs.Laws.Fetched.{asPixels4, asPixels8, asPixels16, asHalo9, asHalo13, asHalo21, pixels4-is, pixels8-is, pixels16-is, halo9-is, halo13-is, halo21-is}
 use Rattle.rfc6386.specs.Laws.Halos.{halo-flat, halo-between, listImage}
 use Rattle.rfc6386.specs.declared.Mv.{Mv}
 use Rattle.rfc6386.specs.declared.FilterSet.{FilterSet}
@@ -33,9 +34,6 @@ use Rattle.rfc6386.specs.declared.FilterSet.the-variants.{Bilinear}
 use Rattle.rfc6386.specs.declared.Block4.{Block4}
 use Rattle.rfc6386.specs.declared.Block8.{Block8}
 use Rattle.rfc6386.specs.declared.Block16.{Block16}
-use Rattle.rfc6386.specs.declared.Halo9.{Halo9}
-use Rattle.rfc6386.specs.declared.Halo13.{Halo13}
-use Rattle.rfc6386.specs.declared.Halo21.{Halo21}
 use Rattle.rfc6386.specs.declared.ReconstructedMb.{ReconstructedMb}
 
 -- ---- answers, by their numbers
@@ -63,15 +61,6 @@ asBlock8 n l = record { number = n; samples = l }
 
 abbrev asBlock16 : ℕ → List ℕ → Block16
 asBlock16 n l = record { number = n; samples = l }
-
-abbrev asHalo9 : ℕ → List ℕ → Halo9
-asHalo9 n l = record { number = n; samples = l }
-
-abbrev asHalo13 : ℕ → List ℕ → Halo13
-asHalo13 n l = record { number = n; samples = l }
-
-abbrev asHalo21 : ℕ → List ℕ → Halo21
-asHalo21 n l = record { number = n; samples = l }
 
 -- ---- bytes outside the picture alter nothing
 -- two planes that no call at column x, row y tells apart: one number, and one picture wherever that is 0
@@ -102,28 +91,22 @@ module _ (p q : Plane) (x y : ℕ) (S : SamePlane p q x y) where
   same answer count samples = shown-same answer count (S .number) (λ e. ap samples (S .picture e))
 
   pub pixels4-same : (v : Mv) → pixels4 p x y v ≡ pixels4 q x y v
-  unfolding pixels4
-  pixels4-same v = same asBlock4 16 (λ img. pixels 4 img x y v)
+  pixels4-same v = pixels4-is p x y v ∙ same asPixels4 16 (λ img. pixels 4 img x y v) ∙ sym (pixels4-is q x y v)
 
   pub pixels8-same : (v : Mv) → pixels8 p x y v ≡ pixels8 q x y v
-  unfolding pixels8
-  pixels8-same v = same asBlock8 64 (λ img. pixels 8 img x y v)
+  pixels8-same v = pixels8-is p x y v ∙ same asPixels8 64 (λ img. pixels 8 img x y v) ∙ sym (pixels8-is q x y v)
 
   pub pixels16-same : (v : Mv) → pixels16 p x y v ≡ pixels16 q x y v
-  unfolding pixels16
-  pixels16-same v = same asBlock16 256 (λ img. pixels 16 img x y v)
+  pixels16-same v = pixels16-is p x y v ∙ same asPixels16 256 (λ img. pixels 16 img x y v) ∙ sym (pixels16-is q x y v)
 
   pub halo9-same : (v : Mv) → halo9 p x y v ≡ halo9 q x y v
-  unfolding halo9
-  halo9-same v = same asHalo9 81 (λ img. halo 4 img x y v)
+  halo9-same v = halo9-is p x y v ∙ same asHalo9 81 (λ img. halo 4 img x y v) ∙ sym (halo9-is q x y v)
 
   pub halo13-same : (v : Mv) → halo13 p x y v ≡ halo13 q x y v
-  unfolding halo13
-  halo13-same v = same asHalo13 169 (λ img. halo 8 img x y v)
+  halo13-same v = halo13-is p x y v ∙ same asHalo13 169 (λ img. halo 8 img x y v) ∙ sym (halo13-is q x y v)
 
   pub halo21-same : (v : Mv) → halo21 p x y v ≡ halo21 q x y v
-  unfolding halo21
-  halo21-same v = same asHalo21 441 (λ img. halo 16 img x y v)
+  halo21-same v = halo21-is p x y v ∙ same asHalo21 441 (λ img. halo 16 img x y v) ∙ sym (halo21-is q x y v)
 
   pub block4-same : (set : FilterSet) (v : Mv) → block4 set p x y v ≡ block4 set q x y v
   unfolding block4
@@ -217,29 +200,23 @@ module _ (p : Plane) (x y s : ℕ) (F : Flat p s) where
   squared n X Y h = square-flat n (image p) X Y s h ∙ raster-plain n n s
 
   -- THEOREM. A call on a plane of one value answers that value, or refuses.
-  pub pixels4-flat : (v : Mv) → pixels4 p x y v ≡ asBlock4 (planeRefusal p x y) (shown 16 (planeRefusal p x y) (replicate 16 s))
-  unfolding pixels4
-  pixels4-flat v = flat asBlock4 16 _ (squared 4 _ _)
+  pub pixels4-flat : (v : Mv) → pixels4 p x y v ≡ asPixels4 (planeRefusal p x y) (shown 16 (planeRefusal p x y) (replicate 16 s))
+  pixels4-flat v = pixels4-is p x y v ∙ flat asPixels4 16 _ (squared 4 _ _)
 
-  pub pixels8-flat : (v : Mv) → pixels8 p x y v ≡ asBlock8 (planeRefusal p x y) (shown 64 (planeRefusal p x y) (replicate 64 s))
-  unfolding pixels8
-  pixels8-flat v = flat asBlock8 64 _ (squared 8 _ _)
+  pub pixels8-flat : (v : Mv) → pixels8 p x y v ≡ asPixels8 (planeRefusal p x y) (shown 64 (planeRefusal p x y) (replicate 64 s))
+  pixels8-flat v = pixels8-is p x y v ∙ flat asPixels8 64 _ (squared 8 _ _)
 
-  pub pixels16-flat : (v : Mv) → pixels16 p x y v ≡ asBlock16 (planeRefusal p x y) (shown 256 (planeRefusal p x y) (replicate 256 s))
-  unfolding pixels16
-  pixels16-flat v = flat asBlock16 256 _ (squared 16 _ _)
+  pub pixels16-flat : (v : Mv) → pixels16 p x y v ≡ asPixels16 (planeRefusal p x y) (shown 256 (planeRefusal p x y) (replicate 256 s))
+  pixels16-flat v = pixels16-is p x y v ∙ flat asPixels16 256 _ (squared 16 _ _)
 
   pub halo9-flat : (v : Mv) → halo9 p x y v ≡ asHalo9 (planeRefusal p x y) (shown 81 (planeRefusal p x y) (replicate 81 s))
-  unfolding halo9
-  halo9-flat v = flat asHalo9 81 _ (squared 9 _ _)
+  halo9-flat v = halo9-is p x y v ∙ flat asHalo9 81 _ (squared 9 _ _)
 
   pub halo13-flat : (v : Mv) → halo13 p x y v ≡ asHalo13 (planeRefusal p x y) (shown 169 (planeRefusal p x y) (replicate 169 s))
-  unfolding halo13
-  halo13-flat v = flat asHalo13 169 _ (squared 13 _ _)
+  halo13-flat v = halo13-is p x y v ∙ flat asHalo13 169 _ (squared 13 _ _)
 
   pub halo21-flat : (v : Mv) → halo21 p x y v ≡ asHalo21 (planeRefusal p x y) (shown 441 (planeRefusal p x y) (replicate 441 s))
-  unfolding halo21
-  halo21-flat v = flat asHalo21 441 _ (squared 21 _ _)
+  halo21-flat v = halo21-is p x y v ∙ flat asHalo21 441 _ (squared 21 _ _)
 
   pub block4-flat : (set : FilterSet) (v : Mv) → block4 set p x y v ≡ asBlock4 (planeRefusal p x y) (shown 16 (planeRefusal p x y) (replicate 16 s))
   unfolding block4 block

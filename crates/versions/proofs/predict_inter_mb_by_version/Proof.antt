@@ -3,10 +3,12 @@ use borrow.Author.Needs.{needs}
 use mathlib.Core.Path.{ap, _∙_}
 use Rattle.rfc6386.specs.Vector.{Lowering}
 use Rattle.rfc6386.specs.Macroblock.{lent, whole}
+use Rattle.rfc6386.specs.Report.{wholeReport}
 use Rattle.rfc6386.specs.Version.{wholeByVersion}
 use Rattle.rfc6386.specs.Laws.Versions.{in-mode, refused-by, predicted-by}
 use Rattle.rfc6386.specs.declared.FilterSet.{FilterSet}
 use Rattle.rfc6386.specs.declared.Prediction.{Prediction}
+use Rattle.rfc6386.specs.declared.Report.{Report}
 use Rattle.versions.proofs.predict_inter_mb_by_version.Statement.{statement}
 use Rattle.versions.proofs.predict_inter_mb_by_version.Tie as tie
 
@@ -23,12 +25,13 @@ returns c =
     c .refused .ensures ∙ refused-by (p .before .before .before .before .args .version) (p .before .before .before .before .args .standard) (p .profile-for-version .ensures) (predicted p) (c .before .if1 .taken)
 
 returns-2 : tie.Need-returns-2
-unfolding wholeByVersion
+unfolding wholeByVersion wholeReport
 returns-2 c =
-    let l = c .before in
+    let d = c .before in
+    let l = d .before in
     let p = l .before .before in
     let a = p .before .before .before .before .args in
-    c .predict-inter-mb-lowered .ensures
+    ap (λ (o : Report). o .prediction) (d .predict-inter-mb-lowered .ensures)
     ∙ ap (predicted p (p .profile-for-version .result .set)) (in-mode (a .standard) (p .profile-for-version .result .«full_pixel») (l .lowers-luma .ensures))
     ∙ predicted-by (a .version) (a .standard) (p .profile-for-version .ensures) (predicted p) (l .before .if1 .left)
 

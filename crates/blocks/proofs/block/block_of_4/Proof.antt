@@ -13,4 +13,4 @@ block-of-4-spec =
     (tie.spec
     (λ c. search needs)
     (λ c κs. (c .before .before .pre, record { some = omega arith; across = omega arith; down = λ r h. omega arith }))
-    (λ c. c .before .tile-into .ensures ∙ put-whole 4 _ _ refl (length-block 4 _ _ _ _ _)))
+    (λ c. c .before .tile-into .ensures .0 ∙ put-whole 4 _ _ refl (length-block 4 _ _ _ _ _)))

@@ -13,16 +13,16 @@ use Rattle.blocks.proofs.block.filter_block_4x4_into.Tie as tie
 
 returns-2 : tie.Need-returns-2
 returns-2 c =
-    let e = (c .before .before) in
-    into-no-room _ _ (sym (e .before .plane-refusal .ensures) ∙ e .if1 .left) (sym (c .before .no-room .ensures) ∙ c .if2 .taken)
+    let e = ((c .before .before)) in
+    into-no-room _ _ (sym (c .before .before .before .plane-refusal .ensures) ∙ e .if1 .left) (sym (c .before .no-room .ensures) ∙ c .if2 .taken)
 
 tile-into-requires : tie.Need-tile-into-requires
 tile-into-requires c κs =
-    let e = (c .before) in
-    let n = (c .before .before .before) in
+    let e = ((c .before)) in
+    let n = ((c .before .before .before)) in
     let a = c .before .before .before .before .before .before .before .args in
-    let R = roomy (length (a .dst .now)) (a .dst-stride) (a .dst-x) (a .dst-y) (sym (e .before .no-room .ensures) ∙ e .if2 .left) in (
-      sym (n .before .plane-refusal .ensures) ∙ n .if1 .left,
+    let R = roomy (length (a .dst .now)) (a .dst-stride) (a .dst-x) (a .dst-y) (sym (c .before .before .no-room .ensures) ∙ e .if2 .left) in (
+      sym (c .before .before .before .before .plane-refusal .ensures) ∙ n .if1 .left,
       record {
         some = omega arith;
         across = R .across;
@@ -32,11 +32,11 @@ tile-into-requires c κs =
 
 returns-3 : tie.Need-returns-3
 returns-3 c =
-    let e = (c .before .before .before .before) in
-    let n = (c .before .before .before .before .before .before) in
+    let e = ((c .before .before .before .before)) in
+    let n = ((c .before .before .before .before .before .before)) in
     let a = c .before .before .before .before .before .before .before .before .before .before .args in
-    into-done (a .set) (a .mv) (sym (n .before .plane-refusal .ensures) ∙ n .if1 .left) (sym (e .before .no-room .ensures) ∙ e .if2 .left)
-    (c .before .before .tile-into .ensures
+    into-done (a .set) (a .mv) (sym (c .before .before .before .before .before .before .before .plane-refusal .ensures) ∙ n .if1 .left) (sym (c .before .before .before .before .before .no-room .ensures) ∙ e .if2 .left)
+    (c .before .before .tile-into .ensures .0
     ∙ written-ext (a .dst .now) (a .dst-stride) (a .dst-x) (a .dst-y) 4 4 _ _ (λ r c hr hc. block-sample 4 (a .set) _ (a .blk-x) (a .blk-y) (a .mv) r c hr hc))
 
 pub filter-block-4x4-into-spec : {M : Type 1} → statement M

@@ -10,7 +10,7 @@ use Rattle.rfc6386.specs.Laws.Halos.{whole-block}
 use Rattle.steps.specs.Laws.Windows.{put-as}
 use Rattle.blocks.specs.Places.{planeAt, HaloAt}
 use Rattle.blocks.proofs.Fetches.{under-x, under-y}
-use Rattle.blocks.proofs.Windows.{way-mx, way-my, way-block, near-held, near-window, far-size, far-window, pixels-size}
+use Rattle.blocks.proofs.Windows.{way-mx, way-my, way-block, near-held, near-window, far-size, far-window, pixels-size, fetched-pixels, fetched-halo}
 use Rattle.blocks.proofs.block.tile_into.Statement.{statement}
 use Rattle.blocks.proofs.block.tile_into.Tie as tie
 
@@ -21,41 +21,55 @@ bytes : (c : tie.After-shared-slice-known) → let a = c .before .args in Bytes 
 bytes c = image-bytes _ (λ i. omega (arith, c .shared-slice-known .given i))
 
 inside : (c : tie.Then2) → let a = c .before .before .before .before .before .before .before .args in let f = c .before .find .result in HaloAt (a .at) (a .mv) 9 (f .x) (f .y)
-inside c = c .before .find .ensures (c .if2 .taken)
+inside c = c .before .find .ensures .0 (c .if2 .taken)
 
 copy-rect-requires : tie.Need-copy-rect-requires
-copy-rect-requires c κs = (c .before .before .before .before .before .before .before .pre .1, λ r h. omega (arith, pixels-size 4 _ (c .before .before .before .before .before .before .before .args .at .x) (c .before .before .before .before .before .before .before .args .at .y) (c .before .before .before .before .before .before .before .args .mv) (c .before .before .pixels-of-4 .ensures)))
+copy-rect-requires c κs = (c .before .before .before .before .before .before .before .before .pre .1, λ r h. omega (arith, pixels-size 4 _ (c .before .before .before .before .before .before .before .before .args .at .x) (c .before .before .before .before .before .before .before .before .args .at .y) (c .before .before .before .before .before .before .before .before .args .mv) (c .before .before .pixels-of-4 .ensures .0)))
 
 returns : tie.Need-returns
 returns c =
-    let t = (c .before .before .before .before .before .before) in
-    put-as _ _ _ _ 4 (c .before .before .copy-rect .ensures) (whole-block 4 _ _ _ _ _ (c .before .before .before .before .before .pixels-of-4 .ensures) (sym (t .before .whole-pixel-fraction-is-zero .ensures) ∙ t .if1 .taken))
+    let whole = sym (c .before .before .before .before .before .before .before .before .whole-pixel-fraction-is-zero .ensures) ∙ c .before .before .before .before .before .before .before .if1 .taken in (
+      put-as _ _ _ _ 4 (c .before .before .copy-rect .ensures) (whole-block 4 _ _ _ _ _ (c .before .before .before .before .before .pixels-of-4 .ensures .0) whole),
+      fetched-pixels 4 _ _ _ _ whole (c .before .before .before .before .before .pixels-of-4 .ensures .1),
+    )
 
 find-requires : tie.Need-find-requires
-find-requires c κs = let A = accepts (c .before .before .before .before .before) in ((under-x A, under-y A), (A .width-most, A .height-most))
+find-requires c κs = let A = accepts ((c .before .before .before .before .before)) in ((under-x A, under-y A), ((A .width-most, A .height-most), omega arith))
+
+mul-t24 : tie.Need-mul-t24
+mul-t24 c = omega (arith, near-held 4 (accepts ((c .before .before .before .before .before .before .before .before .before))) (inside ((c .before .before))) 0 (omega arith))
+
+add-t25 : tie.Need-add-t25
+add-t25 c = omega (arith, near-held 4 (accepts ((c .before .before .before .before .before .before .before .before .before .before))) (inside ((c .before .before .before))) 0 (omega arith))
 
 filter-tile-requires : tie.Need-filter-tile-requires
-filter-tile-requires c κs = (near-held 4 (accepts (c .before .before .before .before .before .before .before .before .before .before .before)) (inside (c .before .before .before .before)), (way-mx (c .before .before .before .before .before .before .before .before .before .before .before .args .mv) _ (c .before .before .before .before .before .before .way-of .ensures), (way-my (c .before .before .before .before .before .before .before .before .before .before .before .args .mv) _ (c .before .before .before .before .before .before .way-of .ensures), c .before .before .before .before .before .before .before .before .before .before .before .pre .1)))
+filter-tile-requires c κs = (near-held 4 (accepts ((c .before .before .before .before .before .before .before .before .before .before .before))) (inside ((c .before .before .before .before))), (way-mx (c .before .before .before .before .before .before .before .before .before .before .before .args .mv) _ (c .before .before .before .before .before .before .way-of .ensures), (way-my (c .before .before .before .before .before .before .before .before .before .before .before .args .mv) _ (c .before .before .before .before .before .before .way-of .ensures), c .before .before .before .before .before .before .before .before .before .before .before .pre .1)))
 
 returns-2 : tie.Need-returns-2
 returns-2 c =
     let a = c .before .before .before .before .before .before .before .before .before .before .before .before .before .before .args in
-    put-as _ _ _ _ 4 (c .before .before .filter-tile .ensures)
-    (way-block 4 (a .set) _ (a .at .x) (a .at .y) (a .mv) (bytes (c .before .before .before .before .before .before .before .before .before .before .before .before .before)) (c .before .before .before .before .before .before .before .before .before .way-of .ensures)
-    (near-window 4 (accepts (c .before .before .before .before .before .before .before .before .before .before .before .before .before .before)) (inside (c .before .before .before .before .before .before .before))) refl)
+    let fraction = sym (c .before .before .before .before .before .before .before .before .before .before .before .whole-pixel-fraction-is-zero .ensures) ∙ c .before .before .before .before .before .before .before .before .before .before .if1 .left in (
+      put-as _ _ _ _ 4 (c .before .before .filter-tile .ensures)
+          (way-block 4 (a .set) _ (a .at .x) (a .at .y) (a .mv) (bytes ((c .before .before .before .before .before .before .before .before .before .before .before .before .before))) (c .before .before .before .before .before .before .before .before .before .way-of .ensures)
+          (near-window 4 (accepts ((c .before .before .before .before .before .before .before .before .before .before .before .before .before .before))) (inside ((c .before .before .before .before .before .before .before)))) refl),
+      fetched-halo 4 _ _ _ _ fraction (c .before .before .before .before .before .before .before .before .find .ensures .1 (c .before .before .before .before .before .before .before .if2 .taken)),
+    )
 
 filter-tile-requires-2 : tie.Need-filter-tile-requires-2
 filter-tile-requires-2 c κs =
-    let w = c .before .before .before .before .before .way-of .ensures in
-    let size = far-size 4 _ (c .before .before .before .before .before .before .before .before .before .before .args .at .x) (c .before .before .before .before .before .before .before .before .before .before .args .at .y) (c .before .before .before .before .before .before .before .before .before .before .args .mv) (c .before .before .halo-of-4 .ensures) in
-    (λ r h. omega (arith, size), (way-mx (c .before .before .before .before .before .before .before .before .before .before .args .mv) _ w, (way-my (c .before .before .before .before .before .before .before .before .before .before .args .mv) _ w, c .before .before .before .before .before .before .before .before .before .before .pre .1)))
+    let w = c .before .before .before .before .before .before .way-of .ensures in
+    let size = far-size 4 _ (c .before .before .before .before .before .before .before .before .before .before .before .args .at .x) (c .before .before .before .before .before .before .before .before .before .before .before .args .at .y) (c .before .before .before .before .before .before .before .before .before .before .before .args .mv) (c .before .before .halo-of-4 .ensures .0) in
+    (λ r h. omega (arith, size), (way-mx (c .before .before .before .before .before .before .before .before .before .before .before .args .mv) _ w, (way-my (c .before .before .before .before .before .before .before .before .before .before .before .args .mv) _ w, c .before .before .before .before .before .before .before .before .before .before .before .pre .1)))
 
 returns-3 : tie.Need-returns-3
 returns-3 c =
-    let a = c .before .before .before .before .before .before .before .before .before .before .before .before .before .args in
-    put-as _ _ _ _ 4 (c .before .before .filter-tile2 .ensures)
-    (way-block 4 (a .set) _ (a .at .x) (a .at .y) (a .mv) (bytes (c .before .before .before .before .before .before .before .before .before .before .before .before)) (c .before .before .before .before .before .before .before .before .way-of .ensures)
-    (far-window 4 _ (c .before .before .before .before .before .before .before .before .before .before .before .before .before .args .at .x) (c .before .before .before .before .before .before .before .before .before .before .before .before .before .args .at .y) (c .before .before .before .before .before .before .before .before .before .before .before .before .before .args .mv) (c .before .before .before .before .before .halo-of-4 .ensures)) refl)
+    let a = c .before .before .before .before .before .before .before .before .before .before .before .before .before .before .args in
+    let fraction = sym (c .before .before .before .before .before .before .before .before .before .before .before .whole-pixel-fraction-is-zero .ensures) ∙ c .before .before .before .before .before .before .before .before .before .before .if1 .left in (
+      put-as _ _ _ _ 4 (c .before .before .filter-tile2 .ensures)
+          (way-block 4 (a .set) _ (a .at .x) (a .at .y) (a .mv) (bytes ((c .before .before .before .before .before .before .before .before .before .before .before .before .before))) (c .before .before .before .before .before .before .before .before .before .way-of .ensures)
+          (far-window 4 _ (a .at .x) (a .at .y) (a .mv) (c .before .before .before .before .before .halo-of-4 .ensures .0)) refl),
+      fetched-halo 4 _ _ _ _ fraction (c .before .before .before .before .before .halo-of-4 .ensures .1),
+    )
 
 pub tile-into-spec : {M : Type 1} → statement M
 tile-into-spec =
@@ -69,8 +83,8 @@ tile-into-spec =
     returns
     (λ c κs. search needs)
     find-requires
-    (λ c. omega (arith, near-held 4 (accepts (c .before .before .before .before .before .before .before .before .before)) (inside (c .before .before)) 0 (omega arith)))
-    (λ c. omega (arith, near-held 4 (accepts (c .before .before .before .before .before .before .before .before .before .before)) (inside (c .before .before .before)) 0 (omega arith)))
+    mul-t24
+    add-t25
     filter-tile-requires
     (λ c. search needs)
     returns-2

@@ -1,5 +1,6 @@
 -- `fetch_halo` fetches the square from two before the whole parts of the vector.
 use borrow.Author.Needs.{needs}
+use mathlib.Core.Path.{refl, _∙_}
 use lib.IntN.{pos, _+ℤ_}
 use mir.Syntax.{w64}
 use native.Mathlib.Omega.{arith}
@@ -7,6 +8,8 @@ use Rattle.signed.specs.Held.{Held, lit, sub, sub-need}
 use Rattle.rfc6386.specs.Vector.{wholePart}
 use Rattle.rfc6386.specs.Laws.Refusals.{plane-accepts}
 use Rattle.blocks.proofs.Squares.{square-as}
+use Rattle.steps.specs.Laws.Windows.{put-as}
+use Rattle.blocks.proofs.Windows.{fetched-alike}
 use Rattle.blocks.proofs.Fetches.{placed, under-x, under-y, source-of}
 use Rattle.blocks.proofs.square.fetch_halo.Statement.{statement}
 use Rattle.blocks.proofs.square.fetch_halo.Tie as tie
@@ -15,37 +18,35 @@ use Rattle.blocks.proofs.square.fetch_halo.Tie as tie
 module _ (c : tie.After-origin) where
   abbrev x0 : Held w64 (pos (c .before .before .before .before .args .at .x) +ℤ wholePart (c .before .before .before .before .args .mv .col)) 20478 4096
   x0 =
-      let s = c .before .before .before .before in
+      let s = (c .before .before .before .before) in
       placed _ (s .args .mv .col) (c .origin .result) (under-x (plane-accepts _ _ _ (s .pre .0))) (c .before .struct-told .given .1 .0 .1) (c .origin .ok) (c .origin .ensures)
 
 module _ (c : tie.After-origin2) where
   abbrev y0 : Held w64 (pos (c .before .before .before .before .before .before .args .at .y) +ℤ wholePart (c .before .before .before .before .before .before .args .mv .row)) 20478 4096
   y0 =
-      let s = c .before .before .before .before .before .before in
+      let s = (c .before .before .before .before .before .before) in
       placed _ (s .args .mv .row) (c .origin2 .result) (under-y (plane-accepts _ _ _ (s .pre .0))) (c .before .struct-told2 .given .0 .1) (c .origin2 .ok) (c .origin2 .ensures)
-
-origin-requires : tie.Need-origin-requires
-origin-requires c κs = under-x (plane-accepts _ _ _ (c .before .before .before .pre .0))
-
-origin-requires-2 : tie.Need-origin-requires-2
-origin-requires-2 c κs = under-y (plane-accepts _ _ _ (c .before .before .before .before .before .pre .0))
-
-sub-x0 : tie.Need-sub-x0
-sub-x0 c = sub-need (x0 c) (lit 2 tt) tt
-
-sub-y0 : tie.Need-sub-y0
-sub-y0 c = sub-need (y0 c) (lit 2 tt) tt
 
 fetch-requires : tie.Need-fetch-requires
 fetch-requires c κs =
-    let o = c .before in
-    let s = o .before .before .before .before .before .before in (
-      source-of (plane-accepts _ _ _ (s .pre .0)) (sub (x0 (o .before .before)) (lit 2 tt) tt) (sub (y0 o) (lit 2 tt) tt) (omega arith, omega arith, omega arith, omega arith),
+    let o = (c .before) in
+    let s = (c .before .before .before .before .before .before .before) in (
+      source-of (plane-accepts _ _ _ (s .pre .0)) (sub (x0 ((c .before .before .before))) (lit 2 tt) tt) (sub (y0 o) (lit 2 tt) tt) (omega arith, omega arith, omega arith, omega arith),
       (s .pre .1 .0, (s .pre .1 .1 .0, s .pre .1 .1 .1)),
     )
 
 returns : tie.Need-returns
-returns c = let o = c .before .before .before .before in square-as (sub (x0 (o .before .before)) (lit 2 tt) tt) (sub (y0 o) (lit 2 tt) tt) _ _ (c .before .before .fetch .ensures)
+returns c =
+    (put-as _ _ _ _ _ (c .before .before .fetch .ensures .0) (square-as (sub (x0 ((c .before .before .before .before .before .before))) (lit 2 tt) tt) (sub (y0 ((c .before .before .before .before))) (lit 2 tt) tt) _ _ refl), c .before .before .fetch .ensures .1 ∙ fetched-alike _ _ _ _ _ _ _ _ _)
 
 pub fetch-halo-spec : {M : Type 1} → statement M
-fetch-halo-spec = tie.close (tie.spec origin-requires sub-x0 origin-requires-2 sub-y0 fetch-requires (λ c. search needs) returns)
+fetch-halo-spec =
+    tie.close
+    (tie.spec
+    (λ c κs. under-x (plane-accepts _ _ _ (c .before .before .before .pre .0)))
+    (λ c. sub-need (x0 c) (lit 2 tt) tt)
+    (λ c κs. under-y (plane-accepts _ _ _ (c .before .before .before .before .before .pre .0)))
+    (λ c. sub-need (y0 c) (lit 2 tt) tt)
+    fetch-requires
+    (λ c. search needs)
+    returns)

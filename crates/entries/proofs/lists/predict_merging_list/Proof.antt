@@ -2,6 +2,7 @@
 use contract.Running.{givenOf, tables, tablesOf}
 use denote.Triple.Spec.{tripleOf}
 use denote.Triple.Table.{entered, cited}
+use Rattle.rfc6386.specs.Report.{mergingReport}
 use Rattle.entries.proofs.ListWalk.{Reader, Core, list-meets}
 use Rattle.entries.proofs.sixteen.sixteen_mvs.Symbol as reader-def
 use Rattle.entries.proofs.sixteen.sixteen_mvs.Symbol.{name as #reader}
@@ -21,7 +22,7 @@ predict-merging-list-spec 𝓤 H 𝓜 𝓖 𝓡 =
     let mem = 𝓜 .mem in
     let run = 𝓡 .run in
     let T = tables 𝓤 H 𝓜 𝓡 code.env in
-    let reads = cited 𝓤 H (Reader 𝓤 H A mem run) 𝓜 𝓡 code.env #reader reader-def.routine code.calls-entries·sixteen·sixteen-mvs (reader-thm.met 𝓤 H 𝓜 𝓖 𝓡) in
-    let called = cited 𝓤 H (Core 𝓤 H A mem run) 𝓜 𝓡 code.env #core core-def.routine code.calls-entries·listed·listed-merging (core-thm.met 𝓤 H 𝓜 𝓖 𝓡) in
+    let reads = cited 𝓤 H (Reader 𝓤 H A) 𝓜 𝓡 code.env #reader reader-def.routine code.calls-entries·sixteen·sixteen-mvs (reader-thm.met 𝓤 H 𝓜 𝓖 𝓡) in
+    let called = cited 𝓤 H (Core 𝓤 H A mergingReport) 𝓜 𝓡 code.env #core core-def.routine code.calls-entries·listed·listed-merging (core-thm.met 𝓤 H 𝓜 𝓖 𝓡) in
     entered 𝓤 H (tripleOf 𝓤 H A entry.signature (entry.spec 𝓤 H A mem run)) (T .C) (T .Λ) #entry code.function (code.unfolded 𝓤 H 𝓜 𝓡)
-    (list-meets 𝓤 H A mem run (givenOf 𝓤 H 𝓜 𝓖) #core (tablesOf 𝓤 H 𝓜 T) reads called)
+    (list-meets 𝓤 H A mergingReport (givenOf 𝓤 H 𝓜 𝓖) #core (tablesOf 𝓤 H 𝓜 T) reads called)

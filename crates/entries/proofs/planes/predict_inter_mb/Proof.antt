@@ -36,17 +36,18 @@ use denote.Triple.Spec.{tripleOf}
 use denote.Triple.Table.{entered, cited}
 use denote.Triple.Walked.{walkOf, walked}
 use Rattle.rfc6386.specs.Vector.{fullPixel}
-use Rattle.rfc6386.specs.Macroblock.{lent, whole as predicted}
+use Rattle.rfc6386.specs.Macroblock.{lent}
+use Rattle.rfc6386.specs.Report.{wholeReport}
 use Rattle.rfc6386.specs.declared.Mv.{Mv}
 use Rattle.rfc6386.specs.declared.FilterSet.{FilterSet}
-use Rattle.rfc6386.specs.declared.Prediction.{Prediction}
+use Rattle.rfc6386.specs.declared.Report.{Report}
 use Rattle.rfc6386.proofs.Mv as E
 use Rattle.rfc6386.proofs.Mv.Laws as E′
 use Rattle.rfc6386.proofs.FilterSet as F
 use Rattle.rfc6386.proofs.FilterSet.Laws as F′
 use Rattle.rfc6386.proofs.Sizes.Laws as Z′
-use Rattle.rfc6386.proofs.Prediction as S
-use Rattle.rfc6386.proofs.Prediction.Laws as S′
+use Rattle.rfc6386.proofs.Report as S
+use Rattle.rfc6386.proofs.Report.Laws as S′
 use Rattle.entries.specs.declared.planes.ReferencePlanes.{ReferencePlanes}
 use Rattle.entries.proofs.planes.ReferencePlanes.Laws as T′
 use Rattle.entries.proofs.Thin.{dropped, answers, ends, meets}
@@ -70,8 +71,8 @@ module _ {M : Type 1} (𝓤 : URA M) (H : Heap 𝓤) (A : Atoms 𝓤) (mem : Mem
   Walk = walkOf 𝓤 H A entry.ended (dropped (entry.signature .params) (entry.ended .kept)) (entry.clauses 𝓤 H A mem run)
 
   module _ (W : Given 𝓤 H A) (κ : Lft) (q : Share) (d : ReferencePlanes) (col row : ℕ) (mv : Mv) (flag : Bool) (set : FilterSet) where
-    abbrev found : Prediction
-    found = predicted set (fullPixel flag) (lent (now (d .y)) (now (d .u)) (now (d .v)) (sizes d)) col row mv
+    abbrev found : Report
+    found = wholeReport set (fullPixel flag) (lent (now (d .y)) (now (d .u)) (now (d .v)) (sizes d)) col row mv
 
     -- the arguments and their machine values
     abbrev args : Args entry.signature (κ, tt)
@@ -140,7 +141,7 @@ module _ {M : Type 1} (𝓤 : URA M) (H : Heap 𝓤) (A : Atoms 𝓤) (mem : Mem
         (and-then ! (load ! (from ! (stop !)) (look ! 27 refl)) (and-then ! (load ! (from ! (stop !)) (look ! 25 refl))
         (and-then ! (load ! (from ! (stop !)) (look ! 23 refl)) (and-then ! (load ! (from ! (stop !)) (look ! 21 refl))
         (and-then ! (load ! (from ! (stop !)) (look ! 19 refl)) (no-more !)))))))))) (λ u.
-        answers ! tt core.ended (core.clauses 𝓤 H A mem run) there u (λ (r : Prediction). r ≡ found) (λ r ws. id⊢ 𝓤 _) (λ r e is-r.
+        answers ! tt core.ended (core.clauses 𝓤 H A mem run) there u (λ (r : Report). r ≡ found) (λ r ws. id⊢ 𝓤 _) (λ r e is-r.
         -- [the result; the tokens; the locals]
         land ! (from ! (stop !)) (init ! 32 refl (LL.lawful S.the-type S′.the-laws 𝓤 H A W .typed r _ is-r .0)) $ returns ! (look ! 32 refl) $
         forget ! 2 refl $ forget ! 4 refl $ forget ! 6 refl $ forget ! 8 refl $ forget ! 10 refl $ forget ! 12 refl $ forget ! 14 refl $ forget ! 16 refl $

@@ -4,6 +4,7 @@ use mathlib.Core.List.{List}
 use borrow.Author.Needs.{needs}
 use Rattle.rfc6386.specs.Vector.{fullPixel}
 use Rattle.rfc6386.specs.Macroblock.{lent, split}
+use Rattle.rfc6386.specs.Report.{quartersReport}
 use Rattle.rfc6386.specs.declared.Mv.{Mv}
 use Rattle.rfc6386.specs.declared.FilterSet.{FilterSet}
 use Rattle.threshowl.specs.Boundary.{flagOf}
@@ -12,6 +13,7 @@ use Rattle.threshowl.proofs.boundary.threshowl_predict_quarters.Stateme
 use Rattle.threshowl.proofs.boundary.threshowl_predict_quarters.Tie as tie
 
 returns : tie.Need-returns
+unfolding quartersReport
 returns c =
     let w = c .before .before in
     let s = w .before .before in
@@ -25,7 +27,7 @@ returns c =
     (a .mb-col) (a .mb-row) mvs)
     (s .set-of .ensures) (m .mvs-of-bytes .ensures))
     (k .codes-refusal .ensures)
-    (w .quarters-into .ensures)
+    (w .quarters-into .ensures .leaves)
 
 pub threshowl-predict-quarters-spec : {M : Type 1} → statement M
 threshowl-predict-quarters-spec =

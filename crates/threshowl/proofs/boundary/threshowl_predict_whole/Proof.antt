@@ -4,6 +4,7 @@ use mir.Facts.{toZ-ofZ}
 use borrow.Author.Needs.{needs}
 use Rattle.rfc6386.specs.Vector.{fullPixel}
 use Rattle.rfc6386.specs.Macroblock.{lent, whole}
+use Rattle.rfc6386.specs.Report.{wholeReport}
 use Rattle.rfc6386.specs.Laws.Vectors.{vector}
 use Rattle.rfc6386.specs.declared.Mv.{Mv}
 use Rattle.rfc6386.specs.declared.FilterSet.{FilterSet}
@@ -13,6 +14,7 @@ use Rattle.threshowl.proofs.boundary.threshowl_predict_whole.Statement.
 use Rattle.threshowl.proofs.boundary.threshowl_predict_whole.Tie as tie
 
 returns : tie.Need-returns
+unfolding wholeReport
 returns c =
     let w = c .before .before in
     let k = w .before .before in
@@ -26,7 +28,7 @@ returns c =
     (a .mb-col) (a .mb-row) m)
     (s .set-of .ensures) (vector (toZ-ofZ (start .fits .mv-row)) (toZ-ofZ (start .fits .mv-col))))
     (k .code-refusal .ensures)
-    (w .whole-into .ensures)
+    (w .whole-into .ensures .leaves)
 
 pub threshowl-predict-whole-spec : {M : Type 1} → statement M
 threshowl-predict-whole-spec =

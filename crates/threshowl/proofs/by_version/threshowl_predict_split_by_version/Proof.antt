@@ -12,6 +12,7 @@ use Rattle.rfc6386.specs.declared.Mv.{Mv}
 use Rattle.rfc6386.specs.declared.FilterSet.{FilterSet}
 use Rattle.rfc6386.specs.declared.Prediction.{Prediction}
 use Rattle.rfc6386.specs.Refusal.{countRefusal}
+use Rattle.rfc6386.specs.Report.{splitReport}
 use Rattle.vector_bytes.specs.Bytes.{vectorsOf}
 use Rattle.threshowl.specs.Boundary.{flagOf}
 use Rattle.outputs.specs.Laws.{left-as}
@@ -36,7 +37,7 @@ returns c =
     (a .out .now) (c .if1 .taken)
 
 returns-2 : tie.Need-returns-2
-unfolding splitByVersion
+unfolding splitByVersion splitReport
 returns-2 c =
     let w = c .before .before in
     let n = w .before .before in
@@ -51,7 +52,7 @@ returns-2 c =
     ∙ ap (predicted p mvs (profile .result .set)) (in-mode (flagOf (a .standard)) (profile .result .«full_pixel») (l .lowers-luma .ensures))
     ∙ predicted-by (a .version) (flagOf (a .standard)) (profile .ensures) (predicted p mvs) (m .before .if1 .left))
     (n .count-refusal .ensures)
-    (w .split-into .ensures)
+    (w .split-into .ensures .leaves)
 
 pub threshowl-predict-split-by-version-spec : {M : Type 1} → statement M
 threshowl-predict-split-by-version-spec =

@@ -5,6 +5,7 @@ use mir.Facts.{toZ-ofZ}
 use borrow.Author.Needs.{needs}
 use Rattle.rfc6386.specs.Vector.{Lowering}
 use Rattle.rfc6386.specs.Macroblock.{lent, whole}
+use Rattle.rfc6386.specs.Report.{wholeReport}
 use Rattle.rfc6386.specs.Version.{wholeByVersion}
 use Rattle.rfc6386.specs.Laws.Vectors.{vector}
 use Rattle.rfc6386.specs.Laws.Versions.{in-mode, predicted-by}
@@ -33,7 +34,7 @@ returns c =
     left-reserved (a .version) (flagOf (a .standard)) (p .profile-for-version .ensures) (predicted p (record { row = a .mv-row; col = a .mv-col })) 0 (a .out .now) (c .if1 .taken)
 
 returns-2 : tie.Need-returns-2
-unfolding wholeByVersion
+unfolding wholeByVersion wholeReport
 returns-2 c =
     let w = c .before .before in
     let l = w .before .before in
@@ -48,7 +49,7 @@ returns-2 c =
     ∙ ap (predicted p mv (profile .result .set)) (in-mode (flagOf (a .standard)) (profile .result .«full_pixel») (l .lowers-luma .ensures))
     ∙ predicted-by (a .version) (flagOf (a .standard)) (profile .ensures) (predicted p mv) (l .before .if1 .left))
     refl
-    (w .whole-into .ensures)
+    (w .whole-into .ensures .leaves)
 
 pub threshowl-predict-whole-by-version-spec : {M : Type 1} → statement M
 threshowl-predict-whole-by-version-spec =

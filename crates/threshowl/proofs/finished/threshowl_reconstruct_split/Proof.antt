@@ -8,6 +8,7 @@ use lib.ListN.{length}
 use Rattle.rfc6386.specs.Vector.{fullPixel}
 use Rattle.rfc6386.specs.Refusal.{orElse, roomRefusal}
 use Rattle.rfc6386.specs.Macroblock.{Reference, lent, split}
+use Rattle.rfc6386.specs.Report.{splitReport}
 use Rattle.residue.specs.Coefficients.{splitRefusal}
 use Rattle.vector_bytes.specs.Bytes.{vectorsOf}
 use Rattle.outputs.specs.Output.{Left}
@@ -35,7 +36,8 @@ module _ (s : tie.Start) where
 
 -- what the prediction leaves
 left : (c : tie.After-split-into) → let s = (c .before .before .before .before .before .before .before .before .before .before .before .before) in
-    Left (predicted s) (orElse (codesRefusal (s .args .filter) (length (s .args .vectors .now))) (orElse (roomRefusal (length (s .args .out .now))) (late s))) (s .args .out .now) (c .split-into .result) (c .split-into .last .1 .1 .1 .1 .1 .1 .1 .1 .1 .1 .1 .0)
+    Left (predicted s) (orElse (codesRefusal (s .args .filter) (length (s .args .vectors .now))) (orElse (roomRefusal (length (s .args .out .now))) (late s))) (s .args .out .now) (c .split-into .result .number) (c .split-into .last .1 .1 .1 .1 .1 .1 .1 .1 .1 .1 .1 .0)
+unfolding splitReport
 left c =
     let s = (c .before .before .before .before .before .before .before .before .before .before .before .before) in
     left-as
@@ -43,26 +45,26 @@ left c =
     (c .before .before .set-of .ensures) (c .before .before .before .mvs-of-bytes .ensures))
     (c .before .before .before .before .with-late .ensures
     ∙ ap₂ (λ (k l : ℕ). orElse k (orElse (roomRefusal (length (s .args .out .now))) l)) (c .before .before .before .before .before .codes-refusal .ensures) (c .before .before .before .before .before .before .split-refusal .ensures))
-    (c .split-into .ensures)
+    (c .split-into .ensures .leaves)
 
 returns : tie.Need-returns
 returns c =
-    let s = (c .before .before .before .before .before .before .before .before .before .before .before .before .before .before .before) in
-    finishes-refused (predicted s) (codesRefusal (s .args .filter) (length (s .args .vectors .now))) (late s) (flagOf (s .args .skip)) (s .args .coefficients .now) (s .args .out .now) (left (c .before .before .before)) (c .if1 .taken)
+    let s = (c .before .before .before .before .before .before .before .before .before .before .before .before .before .before .before .before) in
+    finishes-refused (predicted s) (codesRefusal (s .args .filter) (length (s .args .vectors .now))) (late s) (flagOf (s .args .skip)) (s .args .coefficients .now) (s .args .out .now) (left (c .before .before .before .before)) (c .if1 .taken)
 
 finish-split-requires : tie.Need-finish-split-requires
 finish-split-requires c κs =
-    let s = (c .before .before .before .before .before .before .before .before .before .before .before .before .before .before .before .before) in
-    let l = left (c .before .before .before .before) in
+    let s = (c .before .before .before .before .before .before .before .before .before .before .before .before .before .before .before .before .before) in
+    let l = left (c .before .before .before .before .before) in
     let z = c .before .if1 .left in (
-      omega (arith, c .before .before .before .before .split-into .kept, room-left (predicted s) (codesRefusal (s .args .filter) (length (s .args .vectors .now))) (late s) (flagOf (s .args .skip)) (s .args .coefficients .now) (s .args .out .now) l z),
+      omega (arith, c .before .before .before .before .before .split-into .kept, room-left (predicted s) (codesRefusal (s .args .filter) (length (s .args .vectors .now))) (late s) (flagOf (s .args .skip)) (s .args .coefficients .now) (s .args .out .now) l z),
       none-late (predicted s) (codesRefusal (s .args .filter) (length (s .args .vectors .now))) (late s) (flagOf (s .args .skip)) (s .args .coefficients .now) (s .args .out .now) l z,
     )
 
 returns-2 : tie.Need-returns-2
 returns-2 c =
-    let s = (c .before .before .before .before .before .before .before .before .before .before .before .before .before .before .before .before .before .before .before) in
-    let l = left (c .before .before .before .before .before .before .before) in
+    let s = (c .before .before .before .before .before .before .before .before .before .before .before .before .before .before .before .before .before .before .before .before) in
+    let l = left (c .before .before .before .before .before .before .before .before) in
     let z = c .before .before .before .before .if1 .left in
     finishes-done (predicted s) (codesRefusal (s .args .filter) (length (s .args .vectors .now))) (late s) (flagOf (s .args .skip)) (s .args .coefficients .now) (s .args .out .now) l z
     (split-counted (setOf (s .args .filter)) (fullPixel (flagOf (s .args .full-pixel))) (ref s) (s .args .mb-col) (s .args .mb-row) (mvs s)

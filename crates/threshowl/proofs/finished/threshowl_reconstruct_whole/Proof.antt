@@ -8,6 +8,7 @@ use mir.Facts.{toZ-ofZ}
 use Rattle.rfc6386.specs.Vector.{fullPixel}
 use Rattle.rfc6386.specs.Refusal.{orElse, codeRefusal, roomRefusal}
 use Rattle.rfc6386.specs.Macroblock.{Reference, lent, whole}
+use Rattle.rfc6386.specs.Report.{wholeReport}
 use Rattle.rfc6386.specs.Laws.Vectors.{vector}
 use Rattle.residue.specs.Coefficients.{seeded, wholeRefusal}
 use Rattle.outputs.specs.Output.{Left}
@@ -35,7 +36,8 @@ module _ (s : tie.Start) where
 
 -- what the prediction leaves
 left : (c : tie.After-whole-into) → let s = (c .before .before .before .before .before .before .before .before .before .before) in
-    Left (predicted s) (orElse (codeRefusal (s .args .filter)) (orElse (roomRefusal (length (s .args .out .now))) (late s))) (s .args .out .now) (c .whole-into .result) (c .whole-into .last .1 .1 .1 .1 .1 .1 .1 .1 .1 .1 .1 .0)
+    Left (predicted s) (orElse (codeRefusal (s .args .filter)) (orElse (roomRefusal (length (s .args .out .now))) (late s))) (s .args .out .now) (c .whole-into .result .number) (c .whole-into .last .1 .1 .1 .1 .1 .1 .1 .1 .1 .1 .1 .0)
+unfolding wholeReport
 left c =
     let s = (c .before .before .before .before .before .before .before .before .before .before) in
     left-as
@@ -43,26 +45,26 @@ left c =
     (c .before .before .set-of .ensures) (vector (toZ-ofZ (s .fits .mv-row)) (toZ-ofZ (s .fits .mv-col))))
     (c .before .before .before .with-late .ensures
     ∙ ap₂ (λ (k l : ℕ). orElse k (orElse (roomRefusal (length (s .args .out .now))) l)) (c .before .before .before .before .code-refusal .ensures) (c .before .before .before .before .before .whole-refusal .ensures))
-    (c .whole-into .ensures)
+    (c .whole-into .ensures .leaves)
 
 returns : tie.Need-returns
 returns c =
-    let s = (c .before .before .before .before .before .before .before .before .before .before .before .before .before) in
-    finishes-refused (predicted s) (codeRefusal (s .args .filter)) (late s) (flagOf (s .args .skip)) (seeded (s .args .coefficients .now)) (s .args .out .now) (left (c .before .before .before)) (c .if1 .taken)
+    let s = (c .before .before .before .before .before .before .before .before .before .before .before .before .before .before) in
+    finishes-refused (predicted s) (codeRefusal (s .args .filter)) (late s) (flagOf (s .args .skip)) (seeded (s .args .coefficients .now)) (s .args .out .now) (left (c .before .before .before .before)) (c .if1 .taken)
 
 finish-whole-requires : tie.Need-finish-whole-requires
 finish-whole-requires c κs =
-    let s = (c .before .before .before .before .before .before .before .before .before .before .before .before .before .before) in
-    let l = left (c .before .before .before .before) in
+    let s = (c .before .before .before .before .before .before .before .before .before .before .before .before .before .before .before) in
+    let l = left (c .before .before .before .before .before) in
     let z = c .before .if1 .left in (
-      omega (arith, c .before .before .before .before .whole-into .kept, room-left (predicted s) (codeRefusal (s .args .filter)) (late s) (flagOf (s .args .skip)) (seeded (s .args .coefficients .now)) (s .args .out .now) l z),
+      omega (arith, c .before .before .before .before .before .whole-into .kept, room-left (predicted s) (codeRefusal (s .args .filter)) (late s) (flagOf (s .args .skip)) (seeded (s .args .coefficients .now)) (s .args .out .now) l z),
       none-late (predicted s) (codeRefusal (s .args .filter)) (late s) (flagOf (s .args .skip)) (seeded (s .args .coefficients .now)) (s .args .out .now) l z,
     )
 
 returns-2 : tie.Need-returns-2
 returns-2 c =
-    let s = (c .before .before .before .before .before .before .before .before .before .before .before .before .before .before .before .before .before) in
-    let l = left (c .before .before .before .before .before .before .before) in
+    let s = (c .before .before .before .before .before .before .before .before .before .before .before .before .before .before .before .before .before .before) in
+    let l = left (c .before .before .before .before .before .before .before .before) in
     let z = c .before .before .before .before .if1 .left in
     finishes-done (predicted s) (codeRefusal (s .args .filter)) (late s) (flagOf (s .args .skip)) (seeded (s .args .coefficients .now)) (s .args .out .now) l z
     (whole-counted (setOf (s .args .filter)) (fullPixel (flagOf (s .args .full-pixel))) (ref s) (s .args .mb-col) (s .args .mb-row) (mv s)

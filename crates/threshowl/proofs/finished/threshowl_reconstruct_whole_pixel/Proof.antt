@@ -10,6 +10,7 @@ use mir.Facts.{toZ-ofZ}
 use Rattle.rfc6386.specs.Vector.{fullPixel}
 use Rattle.rfc6386.specs.Refusal.{orElse, roomRefusal}
 use Rattle.rfc6386.specs.Macroblock.{Reference, lent, whole, fractionLeft}
+use Rattle.rfc6386.specs.Report.{wholeReport}
 use Rattle.rfc6386.specs.Laws.Vectors.{vector}
 use Rattle.residue.specs.Coefficients.{seeded, wholeRefusal}
 use Rattle.outputs.specs.Output.{Left}
@@ -40,7 +41,8 @@ module _ (s : tie.Start) where
 
 -- what the prediction leaves
 left : (c : tie.After-whole-into) → let s = (c .before .before .before .before .before .before .before .before .before .before) in
-    Left (predicted s) (orElse 0 (orElse (roomRefusal (length (s .args .out .now))) (late s))) (s .args .out .now) (c .whole-into .result) (c .whole-into .last .1 .1 .1 .1 .1 .1 .1 .1 .1 .1 .1 .0)
+    Left (predicted s) (orElse 0 (orElse (roomRefusal (length (s .args .out .now))) (late s))) (s .args .out .now) (c .whole-into .result .number) (c .whole-into .last .1 .1 .1 .1 .1 .1 .1 .1 .1 .1 .1 .0)
+unfolding wholeReport
 left c =
     let s = (c .before .before .before .before .before .before .before .before .before .before) in
     left-as
@@ -49,27 +51,27 @@ left c =
     ∙ ap (λ (l : ℕ). orElse 0 (orElse (roomRefusal (length (s .args .out .now))) l))
     (c .before .before .before .or-else .ensures
     ∙ ap₂ orElse (c .before .before .before .before .before .fraction-refusal .ensures ∙ ap (fractionLeft (fullPixel (flagOf (s .args .full-pixel)))) (same-mv s)) (c .before .before .before .before .whole-refusal .ensures)))
-    (c .whole-into .ensures)
+    (c .whole-into .ensures .leaves)
 
 returns : tie.Need-returns
 returns c =
-    let s = (c .before .before .before .before .before .before .before .before .before .before .before .before .before) in
+    let s = (c .before .before .before .before .before .before .before .before .before .before .before .before .before .before) in
     finishes-pixels Sixtap (fullPixel (flagOf (s .args .full-pixel))) (ref s) (s .args .mb-col) (s .args .mb-row) (mv s) (wholeRefusal (flagOf (s .args .skip)) (s .args .coefficients .now))
-    (finishes-refused (predicted s) 0 (late s) (flagOf (s .args .skip)) (seeded (s .args .coefficients .now)) (s .args .out .now) (left (c .before .before .before)) (c .if1 .taken))
+    (finishes-refused (predicted s) 0 (late s) (flagOf (s .args .skip)) (seeded (s .args .coefficients .now)) (s .args .out .now) (left (c .before .before .before .before)) (c .if1 .taken))
 
 finish-whole-requires : tie.Need-finish-whole-requires
 finish-whole-requires c κs =
-    let s = (c .before .before .before .before .before .before .before .before .before .before .before .before .before .before) in
-    let l = left (c .before .before .before .before) in
+    let s = (c .before .before .before .before .before .before .before .before .before .before .before .before .before .before .before) in
+    let l = left (c .before .before .before .before .before) in
     let z = c .before .if1 .left in (
-      omega (arith, c .before .before .before .before .whole-into .kept, room-left (predicted s) 0 (late s) (flagOf (s .args .skip)) (seeded (s .args .coefficients .now)) (s .args .out .now) l z),
+      omega (arith, c .before .before .before .before .before .whole-into .kept, room-left (predicted s) 0 (late s) (flagOf (s .args .skip)) (seeded (s .args .coefficients .now)) (s .args .out .now) l z),
       zeros (fractionLeft (fullPixel (flagOf (s .args .full-pixel))) (mv s)) (wholeRefusal (flagOf (s .args .skip)) (s .args .coefficients .now)) (none-late (predicted s) 0 (late s) (flagOf (s .args .skip)) (seeded (s .args .coefficients .now)) (s .args .out .now) l z),
     )
 
 returns-2 : tie.Need-returns-2
 returns-2 c =
-    let s = (c .before .before .before .before .before .before .before .before .before .before .before .before .before .before .before .before .before) in
-    let l = left (c .before .before .before .before .before .before .before) in
+    let s = (c .before .before .before .before .before .before .before .before .before .before .before .before .before .before .before .before .before .before) in
+    let l = left (c .before .before .before .before .before .before .before .before) in
     let z = c .before .before .before .before .if1 .left in
     finishes-pixels Sixtap (fullPixel (flagOf (s .args .full-pixel))) (ref s) (s .args .mb-col) (s .args .mb-row) (mv s) (wholeRefusal (flagOf (s .args .skip)) (s .args .coefficients .now))
     (finishes-done (predicted s) 0 (late s) (flagOf (s .args .skip)) (seeded (s .args .coefficients .now)) (s .args .out .now) l z

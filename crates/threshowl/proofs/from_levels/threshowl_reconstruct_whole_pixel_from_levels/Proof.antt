@@ -14,6 +14,7 @@ use mir.Facts.{toZ-ofZ}
 use Rattle.rfc6386.specs.Vector.{Lowering, fullPixel}
 use Rattle.rfc6386.specs.Refusal.{orElse, roomRefusal}
 use Rattle.rfc6386.specs.Macroblock.{Reference, whole, fractionLeft}
+use Rattle.rfc6386.specs.Report.{wholeReport}
 use Rattle.rfc6386.specs.Laws.Vectors.{vector}
 use Rattle.residue.specs.Coefficients.{seeded, wholeRefusal}
 use Rattle.quantisers.specs.Levels.{wholeProducts}
@@ -84,7 +85,8 @@ module _ (w : tie.After-whole-coefficients) where
 
 -- what the prediction leaves
 left : (c : tie.After-whole-into) → let s = (c .before .before .before .before .before .before .before .before .before .before .before .before .before .before) in
-    Left (predicted s) (orElse 0 (orElse (roomRefusal (length (s .args .out .now))) (late ((c .before .before .before .before .before .before .before .before))))) (s .args .out .now) (c .whole-into .result) (c .whole-into .last .1 .1 .1 .1 .1 .1 .1 .1 .1 .1 .1 .0)
+    Left (predicted s) (orElse 0 (orElse (roomRefusal (length (s .args .out .now))) (late ((c .before .before .before .before .before .before .before .before))))) (s .args .out .now) (c .whole-into .result .number) (c .whole-into .last .1 .1 .1 .1 .1 .1 .1 .1 .1 .1 .1 .0)
+unfolding wholeReport
 left c =
     let s = (c .before .before .before .before .before .before .before .before .before .before .before .before .before .before) in
     left-as (ap (λ (m : Mv). whole Sixtap (low s) (ref s) (s .args .mb-col) (s .args .mb-row) m) (same-mv s))
@@ -92,35 +94,35 @@ left c =
     ∙ ap (λ (l : ℕ). orElse 0 (orElse (roomRefusal (length (s .args .out .now))) l))
     (c .before .before .before .or-else .ensures
     ∙ ap₂ orElse (c .before .before .before .before .before .before .fraction-refusal .ensures ∙ ap (fractionLeft (low s)) (same-mv s)) (c .before .before .before .before .whole-refusal .ensures)))
-    (c .whole-into .ensures)
+    (c .whole-into .ensures .leaves)
 
 returns : tie.Need-returns
 returns c =
-    let s = (c .before .before .before .before .before .before .before .before .before .before .before .before .before .before .before .before .before) in
-    let w = (c .before .before .before .before .before .before .before .before .before .before .before) in
-    ends w (finishes-refused (predicted s) 0 (late w) (flagOf (s .args .skip)) (seeded (coefficients w)) (s .args .out .now) (left ((c .before .before .before))) (c .if1 .taken))
+    let s = (c .before .before .before .before .before .before .before .before .before .before .before .before .before .before .before .before .before .before) in
+    let w = (c .before .before .before .before .before .before .before .before .before .before .before .before) in
+    ends w (finishes-refused (predicted s) 0 (late w) (flagOf (s .args .skip)) (seeded (coefficients w)) (s .args .out .now) (left ((c .before .before .before .before))) (c .if1 .taken))
 
 array-share-prefix-c-2 : tie.Need-array-share-prefix-c-2
-array-share-prefix-c-2 c = c .before .before .before .before .before .before .before .before .before .before .before .before .whole-coefficients .ensures .0
+array-share-prefix-c-2 c = c .before .before .before .before .before .before .before .before .before .before .before .before .before .whole-coefficients .ensures .0
 
 slice-aggregate-finish-whole : tie.Need-slice-aggregate-finish-whole
-slice-aggregate-finish-whole c = counted ((c .before .before .before .before .before .before .before .before .before .before .before .before .before))
+slice-aggregate-finish-whole c = counted ((c .before .before .before .before .before .before .before .before .before .before .before .before .before .before))
 
 finish-whole-requires : tie.Need-finish-whole-requires
 finish-whole-requires c κs =
-    let s = (c .before .before .before .before .before .before .before .before .before .before .before .before .before .before .before .before .before .before .before) in
-    let w = (c .before .before .before .before .before .before .before .before .before .before .before .before .before) in
-    let l = left ((c .before .before .before .before .before)) in
+    let s = (c .before .before .before .before .before .before .before .before .before .before .before .before .before .before .before .before .before .before .before .before) in
+    let w = (c .before .before .before .before .before .before .before .before .before .before .before .before .before .before) in
+    let l = left ((c .before .before .before .before .before .before)) in
     let z = c .before .before .if1 .left in (
-      omega (arith, c .before .before .before .before .before .whole-into .kept, room-left (predicted s) 0 (late w) (flagOf (s .args .skip)) (seeded (coefficients w)) (s .args .out .now) l z),
+      omega (arith, c .before .before .before .before .before .before .whole-into .kept, room-left (predicted s) 0 (late w) (flagOf (s .args .skip)) (seeded (coefficients w)) (s .args .out .now) l z),
       zeros (fractionLeft (low s) (mv s)) (wholeRefusal (flagOf (s .args .skip)) (coefficients w)) (none-late (predicted s) 0 (late w) (flagOf (s .args .skip)) (seeded (coefficients w)) (s .args .out .now) l z),
     )
 
 returns-2 : tie.Need-returns-2
 returns-2 c =
-    let s = (c .before .before .before .before .before .before .before .before .before .before .before .before .before .before .before .before .before .before .before .before .before .before) in
-    let w = (c .before .before .before .before .before .before .before .before .before .before .before .before .before .before .before .before) in
-    let l = left ((c .before .before .before .before .before .before .before .before)) in
+    let s = (c .before .before .before .before .before .before .before .before .before .before .before .before .before .before .before .before .before .before .before .before .before .before .before) in
+    let w = (c .before .before .before .before .before .before .before .before .before .before .before .before .before .before .before .before .before) in
+    let l = left ((c .before .before .before .before .before .before .before .before .before)) in
     let z = c .before .before .before .before .before .if1 .left in
     ends w
     (finishes-done (predicted s) 0 (late w) (flagOf (s .args .skip)) (seeded (coefficients w)) (s .args .out .now) l z
