@@ -8,7 +8,7 @@
 #   make mirror             flip pictures and vectors, and compare the answers
 #   make versions           every version number, on good input and with faults
 #   make quarters           merging by quarters beside split, and with faults
-#   make report             samples fetched, counted another way
+#   make report             samples fetched and clipped, counted another way
 #   make frames             whole frames beside single calls, and with faults
 #   make frame-bench        a frame's time beside that of single calls
 #   make programs           the programs for people, in target/programs
@@ -44,7 +44,7 @@
 # RUSTC=..., see tests/x86-64.sh; the benchmark times a library made for that
 # processor, see bench/native-archive.
 
-VERSION = 0.8.0
+VERSION = 0.9.0
 PREFIX = /usr/local
 DESTDIR =
 ARCHIVE = target/staticlib/libthreshowl.a

@@ -380,23 +380,34 @@ static void show_lamps(const Picture *panel, const char *folder)
 
 /* ---- Samples fetched ---- */
 
-enum { KINDS = 4 };
+enum { KINDS = 4, BY_SPLIT = 1 };
 
 static const char *const kinds[KINDS] = {"whole", "split", "merging", "quarters"};
 
-static void print_fetched(const char *words, const Call *c, const uint8_t *vectors)
+typedef struct {
+    uint64_t fetched, low, high;
+} Report;
+
+static Report report(const Call *c, const uint8_t *vectors, uint8_t kind)
 {
     const Picture *p = c->picture;
+    Answer a;
+    Report r;
+    const uint32_t number = threshowl_predict_report(
+        p->y, c->y_len, p->u, c->u_len, p->v, c->v_len, c->y_stride, c->u_stride, c->v_stride,
+        c->mb_cols, c->mb_rows, c->mb_col, c->mb_row, vectors, c->vectors_len, kind, c->filter,
+        c->full_pixel, a.bytes, c->out_len, &r.fetched, &r.low, &r.high);
+    expect(number == THRESHOWL_DONE, "a good call is done");
+    return r;
+}
+
+static void print_fetched(const char *words, const Call *c, const uint8_t *vectors)
+{
     uint64_t fetched[KINDS];
     uint8_t kind;
     printf("  %-36s", words);
     for (kind = 0; kind < KINDS; kind++) {
-        Answer a;
-        const uint32_t number = threshowl_predict_report(
-            p->y, c->y_len, p->u, c->u_len, p->v, c->v_len, c->y_stride, c->u_stride, c->v_stride,
-            c->mb_cols, c->mb_rows, c->mb_col, c->mb_row, vectors, c->vectors_len, kind, c->filter,
-            c->full_pixel, a.bytes, c->out_len, &fetched[kind]);
-        expect(number == THRESHOWL_DONE, "a good call is done");
+        fetched[kind] = report(c, vectors, kind).fetched;
         printf(" %8u", (unsigned)fetched[kind]);
     }
     printf("\n");
@@ -422,6 +433,34 @@ static void show_fetched(const Picture *p)
     c = good_call(p, 0, 16384);
     sixteen(&c, vectors);
     print_fetched("column 16384, which has no fraction", &c, vectors);
+}
+
+/* ---- Samples clipped, over the panel: as it is, and with the camera's gain far too high ---- */
+
+static void print_clipped(const char *words, const Picture *p)
+{
+    Call c = good_call(p, 3, -5);
+    uint8_t vectors[THRESHOWL_VECTORS_LEN];
+    uint64_t low = 0, high = 0;
+    sixteen(&c, vectors);
+    for (c.mb_row = 0; c.mb_row < MB_ROWS; c.mb_row++)
+        for (c.mb_col = 0; c.mb_col < MB_COLS; c.mb_col++) {
+            const Report r = report(&c, vectors, BY_SPLIT);
+            expect(threshowl_add_clipped(&low, &high, r.low, r.high) == THRESHOWL_DONE, "the totals have room");
+        }
+    printf("  %-36s %8u %8u\n", words, (unsigned)low, (unsigned)high);
+}
+
+static void show_clipped(const Picture *p)
+{
+    Picture saturated = *p;
+    size_t i;
+    for (i = 0; i < Y_LEN; i++)
+        saturated.y[i] = saturated.y[i] < 128 ? 0 : 255;
+    printf("Samples clipped in the panel, moved by row 3, column -5:\n");
+    printf("  %-36s %8s %8s\n", "", "low", "high");
+    print_clipped("as it is", p);
+    print_clipped("saturated", &saturated);
 }
 
 /* ---- The lamp finished: the unlit one's prediction, and a residue that lights it ---- */
@@ -802,6 +841,7 @@ int main(int argc, char **argv)
     clear(&sheet, paper);
     show_lamps(&panel, argv[1]);
     show_fetched(&panel);
+    show_clipped(&panel);
     show_finished(&panel, argv[1]);
     show_frame(&panel, argv[1]);
     write_canvas(argv[1], "contact-sheet.png", &sheet);

@@ -140,7 +140,11 @@ enum {
     /* coefficients_len, or levels_len, is not what it should be; or, with skip
        off, a coefficient lies beyond its range.  The functions that add the
        residue alone give this number. */
-    THRESHOWL_BAD_COEFFICIENTS = 11
+    THRESHOWL_BAD_COEFFICIENTS = 11,
+
+    /* A running total would leave 64 bits.  threshowl_add_clipped alone gives
+       this number. */
+    THRESHOWL_FULL_TOTALS = 16
 };
 
 /*
@@ -212,7 +216,16 @@ uint32_t threshowl_predict_quarters(
  * (n + 5) * (n + 5).  kind 0 is whole, by the first vector, 1 split, 2 merging, and
  * 3 by quarters; any other gives 9, after all else.  Whole fetches 384 to 779,
  * split 384 to 1944, the other two at most what split does, and with full_pixel all
- * of them 384.  *fetched is always set, to 0 where the call refuses.
+ * of them 384.
+ *
+ * And how many of its 384 samples were clipped, low and high: a sample whose last
+ * filter step, the vertical one where the row has a fraction, else the horizontal
+ * one, came to less than 0 or more than 255 before it was clamped.  A copied sample
+ * is not clipped, and what the first of two steps clips does not count.  Under
+ * bilinear, and with full_pixel, both are 0; merging and by quarters have split's.
+ *
+ * *fetched, *clipped_low and *clipped_high are always set, to 0 where the call
+ * refuses.
  */
 uint32_t threshowl_predict_report(
     const uint8_t *y, size_t y_len,
@@ -224,7 +237,14 @@ uint32_t threshowl_predict_report(
     const uint8_t *vectors, size_t vectors_len,
     uint8_t kind, uint8_t filter, uint8_t full_pixel,
     uint8_t *out, size_t out_len,
-    uint64_t *fetched);
+    uint64_t *fetched, uint64_t *clipped_low, uint64_t *clipped_high);
+
+/*
+ * Adds one macroblock's totals of clipped samples to two running ones.  Gives 0, or
+ * 16 (THRESHOWL_FULL_TOTALS) where either sum would leave 64 bits: both running
+ * totals are then as they were.
+ */
+uint32_t threshowl_add_clipped(uint64_t *low, uint64_t *high, uint64_t mb_low, uint64_t mb_high);
 
 /*
  * Whole prediction with the table and the rule of a frame's version.  Gives 10,

@@ -119,9 +119,16 @@ static int quarters(void)
 
 static int report(void)
 {
-    uint64_t fetched = 0;
-    return predicted(threshowl_predict_report(PICTURE, VECTORS, 2, THRESHOWL_BILINEAR, 0, out, sizeof out, &fetched)) &&
-           fetched >= 384;
+    uint64_t fetched = 0, low = 1, high = 1;
+    return predicted(threshowl_predict_report(PICTURE, VECTORS, 2, THRESHOWL_BILINEAR, 0, out, sizeof out, &fetched, &low, &high)) &&
+           fetched >= 384 && low == 0 && high == 0;
+}
+
+static int add_clipped(void)
+{
+    uint64_t low = 5, high = UINT64_MAX;
+    return threshowl_add_clipped(&low, &high, 1, 0) == THRESHOWL_DONE && low == 6 && high == UINT64_MAX &&
+           threshowl_add_clipped(&low, &high, 1, 1) == THRESHOWL_FULL_TOTALS && low == 6 && high == UINT64_MAX;
 }
 
 static int whole_by_version(void)
@@ -281,7 +288,7 @@ static int frame(void)
 
 /* ---- Where the program begins and ends (Linux, x86-64) ---- */
 
-static int (*const calls[])(void) = {whole, split, merging, quarters, report, whole_by_version, split_by_version, predict_frame,
+static int (*const calls[])(void) = {whole, split, merging, quarters, report, add_clipped, whole_by_version, split_by_version, predict_frame,
                                     reconstruct_whole, reconstruct_split, reconstruct_whole_pixel,
                                     reconstruct_whole_from_levels, reconstruct_whole_pixel_from_levels,
                                     reconstruct_split_from_levels, mend, header, frame};

@@ -7,7 +7,7 @@
 
 use crate::frame::{Frame, References};
 use crate::motion_vector::Mv;
-use crate::prediction::{Picture, Position};
+use crate::prediction::{Clipped, Picture, Position};
 use crate::reconstruction::QuantIndices;
 
 /// A prediction has the picture and the position before what is its own, and the output after that; what it reports comes last.
@@ -50,9 +50,9 @@ predictions! {
         vectors.as_ptr() => *const u8, vectors.len() => usize, codes[0] => u8, codes[1] => u8);
     quarters(vectors: &[u8; 64], codes: [u8; 2]) = threshowl_predict_quarters(
         vectors.as_ptr() => *const u8, vectors.len() => usize, codes[0] => u8, codes[1] => u8);
-    report(vectors: &[u8; 64], codes: [u8; 3], fetched: &mut u64) = threshowl_predict_report(
+    report(vectors: &[u8; 64], codes: [u8; 3], fetched: &mut u64, clipped: &mut Clipped) = threshowl_predict_report(
         vectors.as_ptr() => *const u8, vectors.len() => usize, codes[0] => u8, codes[1] => u8, codes[2] => u8)
-        reports fetched => *mut u64;
+        reports fetched => *mut u64, &mut clipped.low => *mut u64, &mut clipped.high => *mut u64;
     finished_whole(mv: Mv, codes: [u8; 3], numbers: &[i16]) = threshowl_reconstruct_whole(
         mv.row => i16, mv.col => i16, codes[0] => u8, codes[1] => u8, codes[2] => u8,
         numbers.as_ptr() => *const i16, numbers.len() => usize);
@@ -119,6 +119,7 @@ extern "C" {
         out_v_stride: usize,
     ) -> u32;
 
+    fn threshowl_add_clipped(low: *mut u64, high: *mut u64, mb_low: u64, mb_high: u64) -> u32;
     fn threshowl_ivf_mend(
         file: *const u8,
         file_len: usize,
@@ -195,6 +196,12 @@ pub(crate) fn predict_frame(references: &References<'_>, orders: &[u8], codes: [
             frame.v_stride,
         )
     }
+}
+
+/// The running totals are left as they were where it refuses.
+pub(crate) fn add_clipped(totals: &mut Clipped, mb: Clipped) -> u32 {
+    // SAFETY: as the head of this file says.
+    unsafe { threshowl_add_clipped(&mut totals.low, &mut totals.high, mb.low, mb.high) }
 }
 
 /// The number, and the three that the call reports.

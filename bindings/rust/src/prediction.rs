@@ -214,12 +214,44 @@ pub struct Report {
     pub mb: ReconstructedMb,
     /// How many samples were fetched from the three planes, one that is fetched twice counted twice.
     pub fetched: u64,
+    /// How many of its samples were clipped.
+    pub clipped: Clipped,
+}
+
+/// Clipped samples: those whose last filter step came to less than 0 or to more than 255 before it was clamped.
+///
+/// Of one macroblock, or of as many as are added up:
+///
+/// ```
+/// use threshowl::prediction::Clipped;
+/// use threshowl::Refusal;
+/// let mut panel = Clipped::default();
+/// panel.add(Clipped { low: 3, high: 250 })?;
+/// panel.add(Clipped { low: 0, high: 6 })?;
+/// assert_eq!(panel, Clipped { low: 3, high: 256 });
+/// assert_eq!(panel.add(Clipped { low: u64::MAX, high: 1 }), Err(Refusal::FullTotals));
+/// assert_eq!(panel, Clipped { low: 3, high: 256 }); // both as they were
+/// # Ok::<(), Refusal>(())
+/// ```
+#[derive(Debug, Clone, Copy, Default, PartialEq, Eq)]
+pub struct Clipped {
+    /// Below 0.
+    pub low: u64,
+    /// Above 255.
+    pub high: u64,
+}
+
+impl Clipped {
+    /// Adds a macroblock's. Refuses with 16 where either total would leave 64 bits, and leaves both as they were.
+    pub fn add(&mut self, mb: Clipped) -> Result<(), Refusal> {
+        Refusal::done(ffi::add_clipped(self, mb))
+    }
 }
 
 /// A prediction with a report: a block of n samples a side fetches n * n where its vector has no fraction, else (n + 5) * (n + 5).
 ///
-/// Whole fetches 384 to 779, split 384 to 1944, the other two no more than split, and with `full_pixel` all of them 384. Refuses
-/// with 1 to 4.
+/// Whole fetches 384 to 779, split 384 to 1944, the other two no more than split, and with `full_pixel` all of them 384. Under
+/// bilinear, and with `full_pixel`, nothing is clipped; merging and by quarters clip what split does. Refuses with 1 to 4.
 ///
 /// ```
 /// # use threshowl::motion_vector::Mv;
@@ -246,10 +278,10 @@ pub fn predict_report(
     filter: FilterSet,
     full_pixel: bool,
 ) -> Result<Report, Refusal> {
-    let mut fetched = 0;
+    let (mut fetched, mut clipped) = (0, Clipped::default());
     let codes = [kind as u8, filter.code(), full_pixel.into()];
-    let mb = written(|out| ffi::report(picture, at, &bytes_of(mvs), codes, &mut fetched, out))?;
-    Ok(Report { mb, fetched })
+    let mb = written(|out| ffi::report(picture, at, &bytes_of(mvs), codes, &mut fetched, &mut clipped, out))?;
+    Ok(Report { mb, fetched, clipped })
 }
 
 /// Whole prediction with the table and the rule of a frame's version, as it stands in the frame's tag.

@@ -40,9 +40,11 @@ pub enum Refusal {
     ShortFrame,
     /// 15: no IVF recording, or one that is too long.
     NotIvf,
+    /// 16: a running total would leave 64 bits.
+    FullTotals,
 }
 
-const ALL: [Refusal; 15] = [
+const ALL: [Refusal; 16] = [
     Refusal::BadSize,
     Refusal::BadStride,
     Refusal::ShortPlane,
@@ -58,6 +60,7 @@ const ALL: [Refusal; 15] = [
     Refusal::NoMark,
     Refusal::ShortFrame,
     Refusal::NotIvf,
+    Refusal::FullTotals,
 ];
 
 impl Refusal {
@@ -88,6 +91,7 @@ impl Refusal {
             Refusal::NoMark => (13, "the first bytes are not the mark of a frame"),
             Refusal::ShortFrame => (14, "the frame is cut short"),
             Refusal::NotIvf => (15, "not an IVF recording, or too long for one"),
+            Refusal::FullTotals => (16, "a running total would leave 64 bits"),
         }
     }
 

@@ -8,7 +8,7 @@ use threshowl::motion_comp::{predict_inter_mb, predict_inter_mb_whole_pixel, pre
 use threshowl::motion_vector::Mv;
 use threshowl::prediction::{
     predict_merging, predict_quarters, predict_report, predict_split, predict_split_by_version, predict_whole,
-    predict_whole_by_version, FullPixel, Kind, Picture, Position,
+    predict_whole_by_version, Clipped, FullPixel, Kind, Picture, Position,
 };
 use threshowl::reconstruct::ReconstructedMb;
 use threshowl::tables::FilterSet;
@@ -104,11 +104,15 @@ fn the_calls_agree() {
         assert_eq!(split, predict_quarters(&picture, at, &mvs, set, full).unwrap());
         assert_eq!(split, predict_split_mv(&lent, at.mb_col, at.mb_row, &mvs, full, set.taps()));
         assert_eq!(whole, predict_inter_mb(&lent, at.mb_col, at.mb_row, mvs[0], full, set.taps()));
+        let clipped = predict_report(&picture, at, &mvs, Kind::Split, set, full).unwrap().clipped;
         for (kind, due) in [(Kind::Whole, whole), (Kind::Split, split), (Kind::Merging, split), (Kind::Quarters, split)] {
             let report = predict_report(&picture, at, &mvs, kind, set, full).unwrap();
             assert_eq!(report.mb, due);
             assert!((384..=1944).contains(&report.fetched));
             assert!(report.fetched == 384 || !full);
+            let Clipped { low, high } = report.clipped;
+            assert!(low + high <= 384 && (low + high == 0 || !full && set == FilterSet::Sixtap));
+            assert!(kind == Kind::Whole || report.clipped == clipped);
         }
         let near = |z: i16| (-16384..=16383).contains(&z);
         if mvs == [mvs[0]; 16] && near(mvs[0].row) && near(mvs[0].col) {

@@ -49,16 +49,16 @@ module _ {p : Plane} {x y : ℕ} where
         near-y = omega arith;
       })
 
--- ---- what a fetch answers, by its number n: so many samples and a count, or zeros
-module _ {A : Type 0} (answer : ℕ → List ℕ → ℕ → A) (count : ℕ) {n m : ℕ} (e : n ≡ m) (s : List ℕ) (fetched : ℕ) where
-  pub answer-refused : (n ≡ 0 → ⊥) → answer n (replicate count 0) 0 ≡ answer m (shown count m s) (ifDone m fetched 0)
+-- ---- what a call answers, by its number n: so many samples and a count, of those fetched or clipped, or zeros and none
+module _ {A B : Type 0} (answer : ℕ → List ℕ → B → A) (count : ℕ) {n m : ℕ} (e : n ≡ m) (s : List ℕ) (counted none : B) where
+  pub answer-refused : (n ≡ 0 → ⊥) → answer n (replicate count 0) none ≡ answer m (shown count m s) (ifDone m counted none)
   answer-refused h =
       let z = refused s (replicate count 0) (λ k. h (e ∙ k)) in
-      let f = refused fetched 0 (λ k. h (e ∙ k)) in
+      let f = refused counted none (λ k. h (e ∙ k)) in
       λ i. answer (e i) (sym z i) (sym f i)
 
-  pub answer-done : n ≡ 0 → {l : List ℕ} {k : ℕ} → l ≡ s → k ≡ fetched → answer n l k ≡ answer m (shown count m s) (ifDone m fetched 0)
+  pub answer-done : n ≡ 0 → {l : List ℕ} {k : B} → l ≡ s → k ≡ counted → answer n l k ≡ answer m (shown count m s) (ifDone m counted none)
   answer-done h p q =
       let z = done s (replicate count 0) (sym e ∙ h) in
-      let f = done fetched 0 (sym e ∙ h) in
+      let f = done counted none (sym e ∙ h) in
       λ i. answer (e i) ((p ∙ sym z) i) ((q ∙ sym f) i)

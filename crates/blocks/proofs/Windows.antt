@@ -1,29 +1,34 @@
--- What the filters make of a window that is a block's halo is the block, near and far. Assumes nothing.
+-- What the filters make of a window that is a block's halo is the block, near and far, and what it takes is counted so. Assumes nothing.
 use mathlib.Core.Path.{_≡_, sym, ap, ap₂, _∙_, subst}
 use mathlib.Core.Bool.{Bool, true, false, cond}
-use mathlib.Core.List.{List, _++_}
-use Prim.Native.Nat.{ℕ, _+_, _*_, _<_}
+use mathlib.Core.List.{List}
+use Prim.Native.Nat.{ℕ, _+_, _*_, _<_, _≤_}
+use native.Mathlib.Nat.{mul-le-mul}
 use native.Mathlib.Omega.{arith}
 use lib.IntN.{ℤ}
-use lib.ListN.{length, length-append, getD}
+use lib.ListN.{length, getD}
 use Rattle.rfc6386.specs.Vector.{fraction, isWhole}
 use Rattle.rfc6386.specs.Raster.{raster}
 use Rattle.rfc6386.specs.Picture.{Plane, Image, image, square, block, pixels, halo, haloBlock}
-use Rattle.rfc6386.specs.Fetched.{Coordinate, squareOf, pixelsOf, haloOf, blockOf}
+use Rattle.rfc6386.specs.Fetched.{squareOf, pixelsOf, haloOf, blockOf}
+use Rattle.rfc6386.specs.Clips.{haloClips}
 use Rattle.rfc6386.specs.Laws.Raster.{length-raster}
 use Rattle.rfc6386.specs.Laws.Refusals.{PlaneAccepts}
 use Rattle.rfc6386.specs.Laws.Samples.{Bytes}
 use Rattle.rfc6386.specs.Laws.Vectors.{fraction-under}
 use Rattle.rfc6386.specs.Laws.Halos.{filtered-block}
 use Rattle.rfc6386.specs.Laws.Fetched.{length-square}
+use Rattle.rfc6386.specs.Laws.Clipping.{filtered-clips, whole-clips}
 use Rattle.rfc6386.specs.declared.Mv.{Mv}
 use Rattle.rfc6386.specs.declared.FilterSet.{FilterSet}
 use Rattle.steps.specs.Rows.{Held}
+use Rattle.steps.specs.Tally.{tallyOf}
 use Rattle.steps.specs.Window.{windowList, windowBlock, sampleOf, Strips}
 use Rattle.steps.specs.Laws.Windows.{window-whole, window-block}
 use Rattle.steps.specs.declared.way.Way.{Way}
 use Rattle.steps.specs.declared.rect.Window.{Window}
 use Rattle.blocks.specs.Places.{planeAt, Alike, Lies, haloStart, HaloAt}
+use Rattle.blocks.specs.Taken.{blockTakes}
 use Rattle.blocks.specs.declared.place.Place.{Place}
 use Rattle.blocks.proofs.Squares.{plain-held, near-is}
 
@@ -87,19 +92,43 @@ module _ (u v : List ℕ) (uw vw : Window) (way : Way) {s : List ℕ} (S : Strip
       window-block 8 (way .set) v (vw .at) (vw .pitch) (way .mx) (way .my) _
       (λ r c hr hc. ap (λ (i : ℕ). getD s i 0) (omega arith) ∙ S .right r hr c hc)
 
--- ---- what a block fetches, k samples: its pixels where the vector has no fraction, else its halo
-module _ (n : ℕ) (p : Plane) (x y : ℕ) (v : Mv) {k : ℕ} where
-  pub fetched-pixels : isWhole v ≡ true → k ≡ length (pixelsOf n p x y v) → k ≡ length (blockOf n p x y v)
+-- ---- what a block takes, of which f is the count of samples
+-- what it fetches: its pixels where the vector has no fraction, else its halo
+module _ (n : ℕ) (p : Plane) (x y : ℕ) (v : Mv) {f : ℕ} where
+  fetched-pixels : isWhole v ≡ true → f ≡ length (pixelsOf n p x y v) → f ≡ length (blockOf n p x y v)
   unfolding blockOf
   fetched-pixels e h = h ∙ sym (ap (λ (b : Bool). length (cond b (pixelsOf n p x y v) (haloOf n p x y v))) e)
 
-  pub fetched-halo : isWhole v ≡ false → k ≡ length (haloOf n p x y v) → k ≡ length (blockOf n p x y v)
+  fetched-halo : isWhole v ≡ false → f ≡ length (haloOf n p x y v) → f ≡ length (blockOf n p x y v)
   unfolding blockOf
   fetched-halo e h = h ∙ sym (ap (λ (b : Bool). length (cond b (pixelsOf n p x y v) (haloOf n p x y v))) e)
 
--- and two blocks, one of each chroma plane; squares of one side fetch alike
-pub fetched-both : (l m : List Coordinate) {a b : ℕ} → a ≡ length l → b ≡ length m → a + b ≡ length (l ++ m)
-fetched-both l m e h = ap₂ _+_ e h ∙ sym (length-append l m)
+-- no tally beside the count
+alone : {f k tally : ℕ} → f ≡ k → tally ≡ 0 → f ≡ k + 4294967296 * tally
+alone e z = omega arith
+
+module _ (n : ℕ) (set : FilterSet) (p : Plane) (x y : ℕ) (v : Mv) where
+  -- THEOREM. Whole pixels take their count alone.
+  pub takes-pixels : isWhole v ≡ true → {f : ℕ} → f ≡ length (pixelsOf n p x y v) → f ≡ blockTakes n set p x y v
+  takes-pixels e h = alone (fetched-pixels n p x y v e h) (ap tallyOf (whole-clips n set (image p) x y v e))
+
+  -- THEOREM. A filtered block takes the count of its halo and what is tallied over a list that is the halo.
+  pub takes-halo : isWhole v ≡ false → {w : Way} → w ≡ wayOf v set → {l : List ℕ} → l ≡ halo n (image p) x y v → {f tally : ℕ} → f ≡ length (haloOf n p x y v)
+      → tally ≡ tallyOf (haloClips n (w .set) l (w .mx) (w .my)) → f + 4294967296 * tally ≡ blockTakes n set p x y v
+  takes-halo e {w} d {l} h k t =
+      ap₂ (λ (f tally : ℕ). f + 4294967296 * tally) (fetched-halo n p x y v e k)
+      (t
+      ∙ ap tallyOf
+      (ap (λ (s : FilterSet). haloClips n s l (w .mx) (w .my)) (ap (λ (w : Way). w .set) d)
+      ∙ filtered-clips n set (image p) x y v h (ap (λ (w : Way). w .mx) d) (ap (λ (w : Way). w .my) d)))
+
+-- two blocks, one of each chroma plane, whose tallies came added up; squares of one side fetch alike
+pub takes-both : (f g s t : ℕ) {tally a b : ℕ} → tally ≡ s + t → f + 4294967296 * s ≡ a → g + 4294967296 * t ≡ b → f + g + 4294967296 * tally ≡ a + b
+takes-both f g s t e h k = omega arith
 
 pub fetched-alike : (n w h w′ h′ : ℕ) (x y x′ y′ : ℤ) → length (squareOf n w h x y) ≡ length (squareOf n w′ h′ x′ y′)
 fetched-alike n w h w′ h′ x y x′ y′ = length-square n w h x y ∙ sym (length-square n w′ h′ x′ y′)
+
+-- and no side here is more than 21
+pub few-fetched : (n w h : ℕ) (x y : ℤ) {f : ℕ} → n ≤ 21 → f ≡ length (squareOf n w h x y) → f ≤ 441
+few-fetched n w h x y k e = omega (arith, e ∙ length-square n w h x y, mul-le-mul {n₂ = 21} {m₂ = 21} k k)

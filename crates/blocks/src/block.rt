@@ -3,17 +3,19 @@ ghost use mathlib.Core.Path.{_≡_};
 ghost use lib.ListN.{length};
 ghost use Rattle.rfc6386.specs.Vector as vector;
 ghost use Rattle.rfc6386.specs.Picture as picture;
-ghost use Rattle.rfc6386.specs.Fetched.{blockOf};
 ghost use Rattle.rfc6386.specs.Block.{planeOf, block4, Into};
 ghost use Rattle.steps.specs.Rows.{Room};
 ghost use Rattle.steps.specs.Window.{put};
 ghost use Rattle.blocks.specs.Places.{planeAt, Accepted};
+ghost use Rattle.blocks.specs.Taken.{blockTakes};
 use crate::near::find;
 use crate::place::Place;
 use crate::square::halo_of_4;
 use crate::square::halo_of_16;
 use crate::square::pixels_of_4;
 use crate::square::pixels_of_16;
+use crate::taken::clips;
+use crate::taken::took;
 use fours::tile::filter_tile;
 use motion_vectors::fraction;
 use motion_vectors::whole_pixel_fraction_is_zero;
@@ -21,6 +23,7 @@ use numbers::ROOM;
 use refusals::no_room;
 use refusals::plane_refusal;
 use rfc6386::Block4;
+use rfc6386::Clips;
 use rfc6386::FilterSet;
 use rfc6386::Mv;
 use sixteens::wide::filter_wide;
@@ -41,12 +44,12 @@ pub fn way_of(mv: Mv, set: FilterSet) -> Way
     }
 }
 
-// A block of 4 samples a side, put into a rectangle of out; gives how many samples it fetched.
+// A block of 4 samples a side, put into a rectangle of out; gives what it took.
 pub fn tile_into(plane: &[u8], at: Place, mv: Mv, set: FilterSet, out: &mut [u8], spot: Spot) -> u64
     requires { ⌜ Accepted (now plane) at ⌝ }
     requires { ⌜ Room (length (now out)) (spot .stride) (spot .x) (spot .y) 4 4 ⌝ }
     ensures { λ _. ⌜ now (out .exit) ≡ put (now (out .entry)) spot 4 (picture.block 4 set (picture.image (planeAt (now (plane .entry)) at)) (at .x) (at .y) mv) ⌝ }
-    ensures { λ r. ⌜ r ≡ length (blockOf 4 (planeAt (now (plane .entry)) at) (at .x) (at .y) mv) ⌝ }
+    ensures { λ r. ⌜ r ≡ blockTakes 4 set (planeAt (now (plane .entry)) at) (at .x) (at .y) mv ⌝ }
 {
     if whole_pixel_fraction_is_zero(mv) {
         let mut fetched: u64 = 0;
@@ -61,21 +64,22 @@ pub fn tile_into(plane: &[u8], at: Place, mv: Mv, set: FilterSet, out: &mut [u8]
             at: found.y * at.stride + found.x,
             pitch: at.stride,
         };
-        filter_tile(plane, from, way, out, spot);
-        return found.fetched;
+        let tally = filter_tile(plane, from, way, out, spot);
+        return took(found.fetched, tally);
     }
     let mut fetched: u64 = 0;
     let halo = halo_of_4(plane, at, mv, &mut fetched);
-    filter_tile(&halo, Window { at: 0, pitch: 9 }, way, out, spot);
-    fetched
+    let tally = filter_tile(&halo, Window { at: 0, pitch: 9 }, way, out, spot);
+    took(fetched, tally)
 }
 
-pub fn block_of_4(plane: &[u8], at: Place, mv: Mv, set: FilterSet) -> [u8; 16]
+pub fn block_of_4(plane: &[u8], at: Place, mv: Mv, set: FilterSet, all: &mut u64) -> [u8; 16]
     requires { ⌜ Accepted (now plane) at ⌝ }
     ensures { λ r. ⌜ r ≡ picture.block 4 set (picture.image (planeAt (now (plane .entry)) at)) (at .x) (at .y) mv ⌝ }
+    ensures { λ _. ⌜ now (all .exit) ≡ blockTakes 4 set (planeAt (now (plane .entry)) at) (at .x) (at .y) mv ⌝ }
 {
     let mut out = [0u8; 16];
-    tile_into(
+    *all = tile_into(
         plane,
         at,
         mv,
@@ -90,26 +94,31 @@ pub fn block_of_4(plane: &[u8], at: Place, mv: Mv, set: FilterSet) -> [u8; 16]
     out
 }
 
-pub fn block_of_16(plane: &[u8], at: Place, mv: Mv, set: FilterSet, fetched: &mut u64) -> [u8; 256]
+pub fn block_of_16(plane: &[u8], at: Place, mv: Mv, set: FilterSet, all: &mut u64) -> [u8; 256]
     requires { ⌜ Accepted (now plane) at ⌝ }
     ensures { λ r. ⌜ r ≡ picture.block 16 set (picture.image (planeAt (now (plane .entry)) at)) (at .x) (at .y) mv ⌝ }
-    ensures { λ _. ⌜ now (fetched .exit) ≡ length (blockOf 16 (planeAt (now (plane .entry)) at) (at .x) (at .y) mv) ⌝ }
+    ensures { λ _. ⌜ now (all .exit) ≡ blockTakes 16 set (planeAt (now (plane .entry)) at) (at .x) (at .y) mv ⌝ }
 {
     if whole_pixel_fraction_is_zero(mv) {
-        return pixels_of_16(plane, at, mv, fetched);
+        return pixels_of_16(plane, at, mv, all);
     }
     let way = way_of(mv, set);
     let found = find(at, mv, 21);
+    let mut tally: u32 = 0;
     if found.near {
-        *fetched = found.fetched;
         let from = Window {
             at: found.y * at.stride + found.x,
             pitch: at.stride,
         };
-        return filter_wide(plane, from, way);
+        let block = filter_wide(plane, from, way, &mut tally);
+        *all = took(found.fetched, tally);
+        return block;
     }
-    let halo = halo_of_16(plane, at, mv, fetched);
-    filter_wide(&halo, Window { at: 0, pitch: 21 }, way)
+    let mut fetched: u64 = 0;
+    let halo = halo_of_16(plane, at, mv, &mut fetched);
+    let block = filter_wide(&halo, Window { at: 0, pitch: 21 }, way, &mut tally);
+    *all = took(fetched, tally);
+    block
 }
 
 // ---- a 4x4 block, and the same written into a lent destination
@@ -129,23 +138,23 @@ pub fn filter_block_4x4(
     if number != 0 {
         return Block4 {
             number,
+            clips: Clips { low: 0, high: 0 },
             samples: [0u8; 16],
         };
     }
+    let at = Place {
+        stride,
+        w,
+        h,
+        x: blk_x,
+        y: blk_y,
+    };
+    let mut all: u64 = 0;
+    let samples = block_of_4(plane, at, mv, set, &mut all);
     Block4 {
         number,
-        samples: block_of_4(
-            plane,
-            Place {
-                stride,
-                w,
-                h,
-                x: blk_x,
-                y: blk_y,
-            },
-            mv,
-            set,
-        ),
+        clips: clips(all),
+        samples,
     }
 }
 

@@ -1,16 +1,15 @@
 // The two chroma planes of a macroblock together: they have one vector, and side by side they fill vectors of the processor.
 ghost use mathlib.Core.Path.{_≡_};
 ghost use mathlib.Core.Bool.{false};
-ghost use mathlib.Core.List.{_++_};
 ghost use Prim.Native.Nat.{_+_, _*_};
 ghost use lib.ListN.{length, getD};
 ghost use Rattle.rfc6386.specs.Raster.{raster};
 ghost use Rattle.rfc6386.specs.Vector.{isWhole};
 ghost use Rattle.rfc6386.specs.Picture as picture;
-ghost use Rattle.rfc6386.specs.Fetched.{blockOf};
 ghost use Rattle.steps.specs.Rows.{Room};
 ghost use Rattle.steps.specs.Window.{put, beside};
 ghost use Rattle.blocks.specs.Places.{planeAt, Accepted, Alike};
+ghost use Rattle.blocks.specs.Taken.{blockTakes};
 use crate::block::way_of;
 use crate::near::find;
 use crate::place::Place;
@@ -18,6 +17,7 @@ use crate::square::halo_of_4;
 use crate::square::halo_of_8;
 use crate::square::pixels_of_4;
 use crate::square::pixels_of_8;
+use crate::taken::took;
 use fours::pair::filter_pair;
 use motion_vectors::whole_pixel_fraction_is_zero;
 use rfc6386::FilterSet;
@@ -56,20 +56,20 @@ pub fn blocks_of_8(
     v_at: Place,
     mv: Mv,
     set: FilterSet,
-    fetched: &mut u64,
+    all: &mut u64,
 ) -> Chroma
     requires { ⌜ Accepted (now u) «u_at» ⌝ }
     requires { ⌜ Accepted (now v) «v_at» ⌝ }
     requires { ⌜ Alike «u_at» «v_at» ⌝ }
     ensures { λ r. ⌜ r ≡ record { u = picture.block 8 set (picture.image (planeAt (now (u .entry)) «u_at»)) («u_at» .x) («u_at» .y) mv; v = picture.block 8 set (picture.image (planeAt (now (v .entry)) «v_at»)) («v_at» .x) («v_at» .y) mv } ⌝ }
-    ensures { λ _. ⌜ now (fetched .exit) ≡ length (blockOf 8 (planeAt (now (u .entry)) «u_at») («u_at» .x) («u_at» .y) mv ++ blockOf 8 (planeAt (now (v .entry)) «v_at») («v_at» .x) («v_at» .y) mv) ⌝ }
+    ensures { λ _. ⌜ now (all .exit) ≡ blockTakes 8 set (planeAt (now (u .entry)) «u_at») («u_at» .x) («u_at» .y) mv + blockTakes 8 set (planeAt (now (v .entry)) «v_at») («v_at» .x) («v_at» .y) mv ⌝ }
 {
     if whole_pixel_fraction_is_zero(mv) {
         let mut u_fetched: u64 = 0;
         let mut v_fetched: u64 = 0;
         let u_pixels = pixels_of_8(u, u_at, mv, &mut u_fetched);
         let v_pixels = pixels_of_8(v, v_at, mv, &mut v_fetched);
-        *fetched = u_fetched + v_fetched;
+        *all = u_fetched + v_fetched;
         return Chroma {
             u: u_pixels,
             v: v_pixels,
@@ -77,6 +77,7 @@ pub fn blocks_of_8(
     }
     let way = way_of(mv, set);
     let found = find(u_at, mv, 13);
+    let mut tally: u32 = 0;
     if found.near {
         let u_from = Window {
             at: found.y * u_at.stride + found.x,
@@ -86,21 +87,21 @@ pub fn blocks_of_8(
             at: found.y * v_at.stride + found.x,
             pitch: v_at.stride,
         };
-        *fetched = found.fetched + found.fetched;
-        let strips = filter_strips(u, u_from, v, v_from, 8, way);
+        let strips = filter_strips(u, u_from, v, v_from, 8, way, &mut tally);
+        *all = took(found.fetched + found.fetched, tally);
         return apart(&strips);
     }
     let mut u_fetched: u64 = 0;
     let mut v_fetched: u64 = 0;
     let u_halo = halo_of_8(u, u_at, mv, &mut u_fetched);
     let v_halo = halo_of_8(v, v_at, mv, &mut v_fetched);
-    *fetched = u_fetched + v_fetched;
     let whole = Window { at: 0, pitch: 13 };
-    let strips = filter_strips(&u_halo, whole, &v_halo, whole, 8, way);
+    let strips = filter_strips(&u_halo, whole, &v_halo, whole, 8, way, &mut tally);
+    *all = took(u_fetched + v_fetched, tally);
     apart(&strips)
 }
 
-// Blocks of 4 samples a side, put into rectangles of u_out and v_out; gives how many samples they fetched.
+// Blocks of 4 samples a side, put into rectangles of u_out and v_out; gives what they took.
 pub fn pair_into(
     u: &[u8],
     u_at: Place,
@@ -119,7 +120,7 @@ pub fn pair_into(
     requires { ⌜ Room (length (now «v_out»)) (spot .stride) (spot .x) (spot .y) 4 4 ⌝ }
     ensures { λ _. ⌜ now («u_out» .exit) ≡ put (now («u_out» .entry)) spot 4 (picture.block 4 set (picture.image (planeAt (now (u .entry)) «u_at»)) («u_at» .x) («u_at» .y) mv) ⌝ }
     ensures { λ _. ⌜ now («v_out» .exit) ≡ put (now («v_out» .entry)) spot 4 (picture.block 4 set (picture.image (planeAt (now (v .entry)) «v_at»)) («v_at» .x) («v_at» .y) mv) ⌝ }
-    ensures { λ r. ⌜ r ≡ length (blockOf 4 (planeAt (now (u .entry)) «u_at») («u_at» .x) («u_at» .y) mv ++ blockOf 4 (planeAt (now (v .entry)) «v_at») («v_at» .x) («v_at» .y) mv) ⌝ }
+    ensures { λ r. ⌜ r ≡ blockTakes 4 set (planeAt (now (u .entry)) «u_at») («u_at» .x) («u_at» .y) mv + blockTakes 4 set (planeAt (now (v .entry)) «v_at») («v_at» .x) («v_at» .y) mv ⌝ }
 {
     if whole_pixel_fraction_is_zero(mv) {
         let whole = Window { at: 0, pitch: 4 };
@@ -131,11 +132,11 @@ pub fn pair_into(
         copy_rect(v_out, spot, 4, 4, &v_block, whole);
         return u_fetched + v_fetched;
     }
-    let mut fetched: u64 = 0;
-    let pair = pair_of(u, u_at, v, v_at, mv, set, &mut fetched);
+    let mut all: u64 = 0;
+    let pair = pair_of(u, u_at, v, v_at, mv, set, &mut all);
     copy_rect(u_out, spot, 4, 4, &pair, Window { at: 0, pitch: 8 });
     copy_rect(v_out, spot, 4, 4, &pair, Window { at: 4, pitch: 8 });
-    fetched
+    all
 }
 
 // The same filtered, side by side, where the vector has a fraction.
@@ -146,17 +147,18 @@ fn pair_of(
     v_at: Place,
     mv: Mv,
     set: FilterSet,
-    fetched: &mut u64,
+    all: &mut u64,
 ) -> [u8; 32]
     requires { ⌜ Accepted (now u) «u_at» ⌝ }
     requires { ⌜ Accepted (now v) «v_at» ⌝ }
     requires { ⌜ Alike «u_at» «v_at» ⌝ }
     requires { ⌜ isWhole mv ≡ false ⌝ }
     ensures { λ r. ⌜ r ≡ beside 4 (picture.block 4 set (picture.image (planeAt (now (u .entry)) «u_at»)) («u_at» .x) («u_at» .y) mv) (picture.block 4 set (picture.image (planeAt (now (v .entry)) «v_at»)) («v_at» .x) («v_at» .y) mv) ⌝ }
-    ensures { λ _. ⌜ now (fetched .exit) ≡ length (blockOf 4 (planeAt (now (u .entry)) «u_at») («u_at» .x) («u_at» .y) mv ++ blockOf 4 (planeAt (now (v .entry)) «v_at») («v_at» .x) («v_at» .y) mv) ⌝ }
+    ensures { λ _. ⌜ now (all .exit) ≡ blockTakes 4 set (planeAt (now (u .entry)) «u_at») («u_at» .x) («u_at» .y) mv + blockTakes 4 set (planeAt (now (v .entry)) «v_at») («v_at» .x) («v_at» .y) mv ⌝ }
 {
     let way = way_of(mv, set);
     let found = find(u_at, mv, 9);
+    let mut tally: u32 = 0;
     if found.near {
         let u_from = Window {
             at: found.y * u_at.stride + found.x,
@@ -166,14 +168,16 @@ fn pair_of(
             at: found.y * v_at.stride + found.x,
             pitch: v_at.stride,
         };
-        *fetched = found.fetched + found.fetched;
-        return filter_pair(u, u_from, v, v_from, way);
+        let pair = filter_pair(u, u_from, v, v_from, way, &mut tally);
+        *all = took(found.fetched + found.fetched, tally);
+        return pair;
     }
     let mut u_fetched: u64 = 0;
     let mut v_fetched: u64 = 0;
     let u_halo = halo_of_4(u, u_at, mv, &mut u_fetched);
     let v_halo = halo_of_4(v, v_at, mv, &mut v_fetched);
-    *fetched = u_fetched + v_fetched;
     let whole = Window { at: 0, pitch: 9 };
-    filter_pair(&u_halo, whole, &v_halo, whole, way)
+    let pair = filter_pair(&u_halo, whole, &v_halo, whole, way, &mut tally);
+    *all = took(u_fetched + v_fetched, tally);
+    pair
 }

@@ -6,6 +6,7 @@ mod near;
 pub mod place;
 pub mod sided;
 pub mod square;
+pub mod taken;
 
 // port order 4 and 5, as in the Rust
 pub use block::filter_block_4x4;

@@ -3,17 +3,19 @@ ghost use mathlib.Core.Path.{_≡_};
 ghost use Prim.Native.Nat.{_+_, _*_, _≤_};
 ghost use lib.ListN.{length};
 ghost use Rattle.rfc6386.specs.Picture as picture;
-ghost use Rattle.rfc6386.specs.Fetched.{haloOf, blockOf};
+ghost use Rattle.rfc6386.specs.Fetched.{haloOf};
 ghost use Rattle.steps.specs.Rows.{Room};
 ghost use Rattle.steps.specs.Side.{Side};
 ghost use Rattle.steps.specs.Window.{put};
 ghost use Rattle.blocks.specs.Places.{planeAt, Accepted, haloStart, clampedRect};
+ghost use Rattle.blocks.specs.Taken.{blockTakes};
 use crate::block::way_of;
 use crate::near::find;
 use crate::place::Place;
 use crate::square::clamped;
 use crate::square::fetch_pixels;
 use crate::square::origin;
+use crate::taken::took;
 use filters::sided::filter_sided;
 use motion_vectors::whole_pixel_fraction_is_zero;
 use rfc6386::FilterSet;
@@ -36,7 +38,7 @@ fn clamped_halo(plane: &[u8], at: Place, mv: Mv, n: usize, out: &mut [u8]) -> u6
 }
 
 // The block of n samples a side: whole pixels where the vector has no fraction, else filtered, out of the plane where the halo lies inside it, else
-// out of a clamped copy. Gives how many samples it fetched.
+// out of a clamped copy. Gives what it took.
 pub fn sided_into(
     plane: &[u8],
     at: Place,
@@ -50,7 +52,7 @@ pub fn sided_into(
     requires { ⌜ Side n ⌝ }
     requires { ⌜ Room (length (now out)) (spot .stride) (spot .x) (spot .y) n n ⌝ }
     ensures { λ _. ⌜ now (out .exit) ≡ put (now (out .entry)) spot n (picture.block n set (picture.image (planeAt (now (plane .entry)) at)) (at .x) (at .y) mv) ⌝ }
-    ensures { λ r. ⌜ r ≡ length (blockOf n (planeAt (now (plane .entry)) at) (at .x) (at .y) mv) ⌝ }
+    ensures { λ r. ⌜ r ≡ blockTakes n set (planeAt (now (plane .entry)) at) (at .x) (at .y) mv ⌝ }
 {
     if whole_pixel_fraction_is_zero(mv) {
         return fetch_pixels(plane, at, mv, n, n, n, out, spot);
@@ -62,8 +64,8 @@ pub fn sided_into(
             at: found.y * at.stride + found.x,
             pitch: at.stride,
         };
-        filter_sided(plane, from, way, n, out, spot);
-        return found.fetched;
+        let tally = filter_sided(plane, from, way, n, out, spot);
+        return took(found.fetched, tally);
     }
     let mut halo = [0u8; 441];
     let fetched = clamped_halo(plane, at, mv, n, &mut halo);
@@ -71,6 +73,6 @@ pub fn sided_into(
         at: 0,
         pitch: n + 5,
     };
-    filter_sided(&halo, whole, way, n, out, spot);
-    fetched
+    let tally = filter_sided(&halo, whole, way, n, out, spot);
+    took(fetched, tally)
 }

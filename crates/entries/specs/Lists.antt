@@ -4,6 +4,7 @@ use Prim.Native.Nat.{ℕ}
 use lib.ListN.{length, replicate}
 use Rattle.rfc6386.specs.Vector.{zeroVector}
 use Rattle.rfc6386.specs.Refusal.{orElse, ifDone, countRefusal}
+use Rattle.rfc6386.specs.Block.{counted}
 use Rattle.rfc6386.specs.Macroblock.{answered}
 use Rattle.rfc6386.specs.declared.Mv.{Mv}
 use Rattle.rfc6386.specs.declared.Report.{Report}
@@ -16,7 +17,7 @@ sixteenOf l = ifDone (countRefusal 16 (length l)) l (replicate 16 zeroVector)
 unfoldable pub refusedBy : ℕ → Report → Report
 refusedBy n r =
     let m = orElse (r .prediction .number) n in
-    record { prediction = answered m (r .prediction .samples); fetched = ifDone m (r .fetched) 0 }
+    record { prediction = answered m (r .prediction .samples); fetched = ifDone m (r .fetched) 0; clips = counted m (r .clips) }
 
 -- a report on a lent list of so many vectors
 abbrev pub listed : Report → ℕ → Report

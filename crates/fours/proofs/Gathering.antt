@@ -10,9 +10,10 @@ use borrow.Author.Count.{below-more}
 use lib.IntN.{ℤ}
 use lib.ListN.{length, getD}
 use Rattle.rfc6386.specs.Raster.{within, written}
-use Rattle.rfc6386.specs.Picture.{stepAt}
+use Rattle.rfc6386.specs.Filter.{step}
+use Rattle.rfc6386.specs.Picture.{sixAt, stepAt}
 use Rattle.rfc6386.specs.Laws.Raster.{row-fits, within-true, length-written}
-use Rattle.rfc6386.specs.Laws.Steps.{same}
+use Rattle.rfc6386.specs.Laws.Steps.{same-six}
 use Rattle.steps.specs.Rows.{Room}
 use Rattle.steps.specs.Laws.Copying.{within-false, written-look}
 
@@ -128,14 +129,18 @@ gathered-at {g} {src} {at} {pitch} {a} G j r c p q hj hr hc ep eq =
     ∙ G .done j hj r c hr hc
     ∙ ap (λ (i : ℕ). getD src i 0) (sym eq)
 
--- THEOREM. A step down six copies is the step along the window.
-pub gathered-step : {g : Copies} {src : List ℕ} {at pitch : ℕ} {a : List ℕ} {k : ℕ} → Gathered g src at pitch a k → 6 ≤ k
-    → (ts : List ℤ) (r c : ℕ) → r < g .rows → c < g .w → stepAt ts a (r * g .s + (g .x + c)) (g .group * g .s) ≡ stepAt ts src (at + r * pitch + c) 1
-gathered-step {g} G hk ts r c hr hc =
-    same ts _ _ _ _ _ _ _ _ _ _ _ _
+-- THEOREM. Six samples down six copies are six along the window, and so is a step over them.
+pub gathered-six : {g : Copies} {src : List ℕ} {at pitch : ℕ} {a : List ℕ} {k : ℕ} → Gathered g src at pitch a k → 6 ≤ k
+    → (r c i : ℕ) → r < g .rows → c < g .w → i ≡ r * g .s + (g .x + c) → sixAt a i (g .group * g .s) ≡ sixAt src (at + r * pitch + c) 1
+gathered-six {g} G hk r c i hr hc ei =
+    same-six
     (gathered-at G 0 r c _ _ (omega arith) hr hc (omega arith) (omega arith))
     (gathered-at G 1 r c _ _ (omega arith) hr hc (omega arith) (omega arith))
     (gathered-at G 2 r c _ _ (omega arith) hr hc (omega arith) (omega arith))
     (gathered-at G 3 r c _ _ (omega arith) hr hc (omega arith) (omega arith))
     (gathered-at G 4 r c _ _ (omega arith) hr hc (omega arith) (omega arith))
     (gathered-at G 5 r c _ _ (omega arith) hr hc (omega arith) (omega arith))
+
+pub gathered-step : {g : Copies} {src : List ℕ} {at pitch : ℕ} {a : List ℕ} {k : ℕ} → Gathered g src at pitch a k → 6 ≤ k
+    → (ts : List ℤ) (r c : ℕ) → r < g .rows → c < g .w → stepAt ts a (r * g .s + (g .x + c)) (g .group * g .s) ≡ stepAt ts src (at + r * pitch + c) 1
+gathered-step G hk ts r c hr hc = ap (step ts) (gathered-six G hk r c _ hr hc refl)

@@ -30,3 +30,5 @@ pub const MARK: u32 = 13;
 pub const CUT: u32 = 14;
 // not a recording
 pub const RECORDING: u32 = 15;
+// a running total that would leave 64 bits
+pub const TOTALS: u32 = 16;

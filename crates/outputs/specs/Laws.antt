@@ -9,6 +9,7 @@ use lib.ListN.{length}
 use borrow.Author.Tests.{eqb-true}
 use Rattle.rfc6386.specs.Vector.{Lowering, lumaVector, chromaVector}
 use Rattle.rfc6386.specs.Picture.{image, blockBy}
+use Rattle.rfc6386.specs.Clips.{noClips}
 use Rattle.rfc6386.specs.Refusal.{orElse, ifDone, roomRefusal}
 use Rattle.rfc6386.specs.Macroblock.{Reference, planeY, planeU, planeV, refusal, wholeSamples, splitSamples, noSamples, answered, whole, split}
 use Rattle.rfc6386.specs.Promises.{one-result}
@@ -54,19 +55,29 @@ module _ (p : Prediction) (codes : ℕ) (out : List ℕ) (n : ℕ) (e : n ≡ ca
 pub left-as : {p q : Prediction} {n m : ℕ} {out out′ : List ℕ} {r : ℕ} → p ≡ q → n ≡ m → Left p n out r out′ → Left q m out r out′
 left-as {out} {out′} {r} e f h = subst (λ (x : Prediction × ℕ). Left (x .0) (x .1) out r out′) (λ i. (e i, f i)) h
 
--- and with what was fetched
+-- and with what was fetched and clipped
 module _ (report : Report) (codes : ℕ) (out : List ℕ) (n : ℕ) (e : n ≡ callNumber (report .prediction) codes out) where
-  pub told-refused : (n ≡ 0 → ⊥) → Told report codes out (record { number = n; fetched = 0 }) out
-  told-refused h = record { leaves = left-refused (report .prediction) codes out n e h; fetched-is = sym (refused (report .fetched) 0 (λ z. h (e ∙ z))) }
+  pub told-refused : (n ≡ 0 → ⊥) → Told report codes out (record { number = n; fetched = 0; clips = noClips }) out
+  told-refused h =
+      let not-zero : callNumber (report .prediction) codes out ≡ 0 → ⊥ = (λ z. h (e ∙ z)) in
+      record {
+        leaves = left-refused (report .prediction) codes out n e h;
+        fetched-is = sym (refused (report .fetched) 0 not-zero);
+        clips-are = sym (refused (report .clips) noClips not-zero);
+      }
 
-  pub told-done : (out′ : List ℕ) → n ≡ 0 → out′ ≡ flat (report .prediction .samples) → Told report codes out (record { number = 0; fetched = report .fetched }) out′
+  pub told-done : (out′ : List ℕ) → n ≡ 0 → out′ ≡ flat (report .prediction .samples) → Told report codes out (record { number = 0; fetched = report .fetched; clips = report .clips }) out′
   told-done out′ z w =
-      record { leaves = left-done (report .prediction) codes out n e out′ z w; fetched-is = sym (done (report .fetched) 0 (sym e ∙ z)) }
+      record {
+        leaves = left-done (report .prediction) codes out n e out′ z w;
+        fetched-is = sym (done (report .fetched) 0 (sym e ∙ z));
+        clips-are = sym (done (report .clips) noClips (sym e ∙ z));
+      }
 
 pub told-as : {p q : Report} {n m : ℕ} {out out′ : List ℕ} {r : Ended} → p ≡ q → n ≡ m → Told p n out r out′ → Told q m out r out′
 told-as {out} {out′} {r} e f h = subst (λ (x : Report × ℕ). Told (x .0) (x .1) out r out′) (λ i. (e i, f i)) h
 
--- ---- THEOREM. No two outcomes meet the contract of a C function: its number, the bytes that it leaves, and what it says was fetched.
+-- ---- THEOREM. No two outcomes meet the contract of a C function: its number, the bytes that it leaves, and what it says was fetched and clipped.
 pub one-outcome : {p : Prediction} {codes : ℕ} {out : List ℕ} {r s : ℕ} {a b : List ℕ} → Left p codes out r a → Left p codes out s b → (r ≡ s) × (a ≡ b)
 one-outcome h k = (one-result (h .number-is) (k .number-is), one-result (h .bytes-are) (k .bytes-are))
 
@@ -74,7 +85,8 @@ pub one-telling : {p : Report} {codes : ℕ} {out : List ℕ} {r s : Ended} {a b
 one-telling h k =
     let left = one-outcome (h .leaves) (k .leaves) in
     let fetched = one-result (h .fetched-is) (k .fetched-is) in
-    (λ i. record { number = left .0 i; fetched = fetched i }, left .1)
+    let clips = one-result (h .clips-are) (k .clips-are) in
+    (λ i. record { number = left .0 i; fetched = fetched i; clips = clips i }, left .1)
 
 -- ---- how many samples there are
 pub record Counted (s : ReconstructedMb) : Type 0 where

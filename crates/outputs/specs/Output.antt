@@ -3,6 +3,7 @@ use mathlib.Core.Path.{_≡_}
 use mathlib.Core.List.{List, _++_}
 use Prim.Native.Nat.{ℕ}
 use lib.ListN.{length}
+use Rattle.rfc6386.specs.Clips.{noClips}
 use Rattle.rfc6386.specs.Refusal.{orElse, ifDone, roomRefusal}
 use Rattle.rfc6386.specs.declared.ReconstructedMb.{ReconstructedMb}
 use Rattle.rfc6386.specs.declared.Prediction.{Prediction}
@@ -22,7 +23,8 @@ pub record Left (p : Prediction) (codes : ℕ) (out : List ℕ) (r : ℕ) (out�
   pub number-is : r ≡ callNumber p codes out
   pub bytes-are : out′ ≡ ifDone (callNumber p codes out) (flat (p .samples)) out
 
--- and what it says, with how many samples were fetched: none where it refuses
+-- and what it says, with how many samples were fetched, and how many clipped: none where it refuses
 pub record Told (report : Report) (codes : ℕ) (out : List ℕ) (ended : Ended) (out′ : List ℕ) : Type 0 where
   pub leaves : Left (report .prediction) codes out (ended .number) out′
   pub fetched-is : ended .fetched ≡ ifDone (callNumber (report .prediction) codes out) (report .fetched) 0
+  pub clips-are : ended .clips ≡ ifDone (callNumber (report .prediction) codes out) (report .clips) noClips

@@ -10,15 +10,17 @@ use prediction::predict_split_mv_lowered;
 use quarters::predict_quarters;
 use refusals::or_else;
 use refusals::room_refusal;
+use rfc6386::Clips;
 use rfc6386::FilterSet;
 use rfc6386::Mv;
 use rfc6386::Report;
 use rfc6386::Sizes;
 
-// What a call says that is lent an output: its number, and how many samples it fetched.
+// What a call says that is lent an output: its number, how many samples it fetched, and how many of its own were clipped.
 pub struct Ended {
     pub number: u32,
     pub fetched: u64,
+    pub clips: Clips,
 }
 
 // Ends a call. `codes` is the number that its codes get.
@@ -31,13 +33,16 @@ fn finish(report: Report, codes: u32, out: &mut [u8]) -> Ended
         return Ended {
             number: n,
             fetched: 0,
+            clips: Clips { low: 0, high: 0 },
         };
     }
     let samples = report.prediction.samples;
+    let clips = report.clips;
     write_samples(out, samples);
     Ended {
         number: 0,
         fetched: report.fetched,
+        clips,
     }
 }
 

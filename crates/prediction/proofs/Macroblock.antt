@@ -7,17 +7,20 @@ use native.Mathlib.Omega.{arith}
 use lib.ListN.{length, length-append}
 use Rattle.rfc6386.specs.Vector.{Lowering, each, lowered, sent, quarterAverages, quarterVector}
 use Rattle.rfc6386.specs.Picture.{Plane}
-use Rattle.rfc6386.specs.Fetched.{Coordinate, blockOf, tilesOf}
+use Rattle.rfc6386.specs.Fetched.{Coordinate}
+use Rattle.rfc6386.specs.Clips.{bothClips}
 use Rattle.rfc6386.specs.Refusal.{planeRefusal}
 use Rattle.rfc6386.specs.Block.{planeOf}
 use Rattle.rfc6386.specs.Macroblock.{Reference, lent, refusal}
 use Rattle.rfc6386.specs.Laws.Steps.{below}
 use Rattle.rfc6386.specs.Laws.Refusals.{Sized, Accepts, accepts, luma-start, u-start, v-start, luma-accepted, u-accepted, v-accepted}
-use Rattle.rfc6386.specs.Laws.Fetched.{cost, length-block, length-tiles, cost-most, total-most}
 use Rattle.rfc6386.specs.declared.Mv.{Mv}
+use Rattle.rfc6386.specs.declared.Clips.{Clips}
 use Rattle.rfc6386.specs.declared.Sizes.{Sizes}
 use Rattle.rfc6386.specs.declared.ReconstructedMb.{ReconstructedMb}
 use Rattle.blocks.specs.Places.{planeAt, Accepted, Alike}
+use Rattle.blocks.specs.Taken.{taken}
+use Rattle.blocks.specs.Laws.{taken-both}
 use Rattle.prediction.specs.Tiles.{Starts}
 use Rattle.blocks.specs.declared.place.Place.{Place}
 
@@ -95,20 +98,13 @@ moved f e p m = e ∙ ap₂ f p m
 pub quarter-of : (low : Lowering) (vs : List Mv) (q : ℕ) → q < 4 → sent (map (each (lowered (low .chroma))) (quarterAverages vs)) q ≡ quarterVector low vs q
 quarter-of low vs q h = below (λ q. sent (map (each (lowered (low .chroma))) (quarterAverages vs)) q ≡ quarterVector low vs q) 4 (refl, (refl, (refl, (refl, tt)))) q h
 
--- ---- what is fetched, from what a call leaves of it: k samples
-pub block-few : (n : ℕ) (p : Plane) (x y : ℕ) (v : Mv) {k : ℕ} → k ≡ length (blockOf n p x y v) → k ≤ (n + 5) * (n + 5)
-block-few n p x y v e = subst (λ (k : ℕ). k ≤ (n + 5) * (n + 5)) (sym (e ∙ length-block n p x y v)) (cost-most n v)
+-- ---- what is taken, or fetched, from what a call leaves of it: at the place and by the vector that the call was given
+pub counted : (f : Place → Mv → ℕ) {k : ℕ} {p q : Place} {m n : Mv} → k ≡ f p m → p ≡ q → m ≡ n → k ≡ f q n
+counted f e p m = e ∙ ap₂ f p m
 
-pub tiles-few : (per : ℕ) (p : Plane) (x y : ℕ) (vector : ℕ → Mv) {k : ℕ} → k ≡ length (tilesOf per p x y vector) → k ≤ per * per * 81
-tiles-few per p x y vector e =
-    subst (λ (k : ℕ). k ≤ per * per * 81) (sym (e ∙ length-tiles per p x y vector)) (total-most (per * per) 81 (λ b. cost 4 (vector b)) (λ b h. cost-most 4 (vector b)))
-
--- of two lists, and of one at the place and by the vector that the call was given
+-- of two lists
 pub joint : (l m : List Coordinate) {a b : ℕ} → a ≡ length l → b ≡ length m → a + b ≡ length (l ++ m)
 joint l m e h = ap₂ _+_ e h ∙ sym (length-append l m)
 
-pub apart : (l m : List Coordinate) {k : ℕ} → k ≡ length (l ++ m) → k ≡ length l + length m
-apart l m e = e ∙ length-append l m
-
-pub counted : (f : Place → Mv → List Coordinate) {k : ℕ} {p q : Place} {m n : Mv} → k ≡ length (f p m) → p ≡ q → m ≡ n → k ≡ length (f q n)
-counted f e p m = e ∙ ap₂ (λ (q : Place) (n : Mv). length (f q n)) p m
+pub joint-taken : (l m : List Coordinate) (k j : Clips) {a b : ℕ} → a ≡ taken (length l) k → b ≡ taken (length m) j → a + b ≡ taken (length (l ++ m)) (bothClips k j)
+joint-taken l m k j e h = ap₂ _+_ e h ∙ taken-both (length l) (length m) k j ∙ ap (λ (n : ℕ). taken n (bothClips k j)) (sym (length-append l m))

@@ -2,6 +2,7 @@
 // caller; those that `quarters` takes out of the public modules ask that the macroblock was not refused.
 pub mod predict;
 pub mod split;
+mod totals;
 
 // port order 6 and 7
 pub use predict::predict_inter_mb;
@@ -15,3 +16,7 @@ pub use predict::predict_split_mv_lowered;
 pub use predict::fraction_left;
 pub use predict::refused;
 pub use predict::refused_report;
+
+// running totals of clipped samples
+pub use totals::Totals;
+pub use totals::add_clipped;

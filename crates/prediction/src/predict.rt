@@ -1,8 +1,9 @@
 // Prediction of a macroblock from three planes beside a record of their sizes: whole, at whole pixels, split, merging, and by version. Each
-// call takes everything, refuses by number, with samples of zeros, and reports how many samples it fetched.
+// call takes everything, refuses by number, with samples of zeros, and reports how many samples it fetched and how many it clipped.
 ghost use mathlib.Core.Path.{_≡_};
 ghost use mathlib.Core.Bool.{cond, _&&_};
 ghost use Rattle.rfc6386.specs.Vector.{fullPixel, isWhole};
+ghost use Rattle.rfc6386.specs.Clips.{noClips};
 ghost use Rattle.rfc6386.specs.Macroblock as macroblock;
 ghost use Rattle.rfc6386.specs.Macroblock.{lent, noSamples};
 ghost use Rattle.rfc6386.specs.Report.{wholeReport, wholePixelReport, splitReport, mergingReport};
@@ -16,6 +17,8 @@ use blocks::place::Place;
 use blocks::place::place_of;
 use blocks::square::pixels_of_8;
 use blocks::square::pixels_of_16;
+use blocks::taken::clips;
+use blocks::taken::fetched;
 use motion_vectors::are_one;
 use motion_vectors::chroma_vector;
 use motion_vectors::luma_vector;
@@ -24,6 +27,7 @@ use motion_vectors::whole_pixel_fraction_is_zero;
 use numbers::FRACTION;
 use refusals::or_else;
 use refusals::refusal;
+use rfc6386::Clips;
 use rfc6386::FilterSet;
 use rfc6386::Mv;
 use rfc6386::Prediction;
@@ -45,13 +49,14 @@ pub fn refused(number: u32) -> Prediction
     }
 }
 
-// The same, and that nothing was fetched.
+// The same, and that nothing was fetched or clipped.
 pub fn refused_report(number: u32) -> Report
-    ensures { λ r. ⌜ r ≡ record { prediction = record { number = number; samples = noSamples }; fetched = 0 } ⌝ }
+    ensures { λ r. ⌜ r ≡ record { prediction = record { number = number; samples = noSamples }; fetched = 0; clips = noClips } ⌝ }
 {
     Report {
         prediction: refused(number),
         fetched: 0,
+        clips: Clips { low: 0, high: 0 },
     }
 }
 
@@ -84,16 +89,19 @@ pub fn predict_inter_mb_lowered(
     let chroma_blocks = blocks_of_8(u, u_at, v, v_at, chroma, set, &mut of_chroma);
     let u_samples = chroma_blocks.u;
     let v_samples = chroma_blocks.v;
+    let y_samples = block_of_16(y, y_at, luma, set, &mut of_luma);
+    let all = of_luma + of_chroma;
     Report {
         prediction: Prediction {
             number,
             samples: ReconstructedMb {
-                y: block_of_16(y, y_at, luma, set, &mut of_luma),
+                y: y_samples,
                 u: u_samples,
                 v: v_samples,
             },
         },
-        fetched: of_luma + of_chroma,
+        fetched: fetched(all),
+        clips: clips(all),
     }
 }
 
@@ -175,6 +183,7 @@ pub fn predict_inter_mb_whole_pixel(
             },
         },
         fetched: of_y + (of_u + of_v),
+        clips: Clips { low: 0, high: 0 },
     }
 }
 
@@ -195,10 +204,10 @@ pub fn split_but_luma(
     split_luma_mvs: [Mv; 16],
     lower_chroma: bool,
     set: FilterSet,
-    fetched: &mut u64,
+    all: &mut u64,
 ) -> Rest
     requires { ⌜ macroblock.refusal (lent (now y) (now u) (now v) sizes) «mb_col» «mb_row» ≡ 0 ⌝ }
-    ensures { λ r. ⌜ ButLuma set «lower_chroma» (lent (now (y .entry)) (now (u .entry)) (now (v .entry)) sizes) «mb_col» «mb_row» «split_luma_mvs» r (now (fetched .exit)) ⌝ }
+    ensures { λ r. ⌜ ButLuma set «lower_chroma» (lent (now (y .entry)) (now (u .entry)) (now (v .entry)) sizes) «mb_col» «mb_row» «split_luma_mvs» r (now (all .exit)) ⌝ }
 {
     let mvs = quarter_vectors(split_luma_mvs, lower_chroma);
     let luma_at = place_of(sizes.y_stride, sizes, mb_col, mb_row, 16);
@@ -206,7 +215,7 @@ pub fn split_but_luma(
     let v_at = place_of(sizes.v_stride, sizes, mb_col, mb_row, 8);
     Rest {
         luma_at,
-        chroma: split_chroma(u, u_at, v, v_at, mvs, set, fetched),
+        chroma: split_chroma(u, u_at, v, v_at, mvs, set, all),
     }
 }
 
@@ -247,16 +256,19 @@ pub fn predict_split_mv_lowered(
     let chroma = rest.chroma;
     let u_samples = chroma.u;
     let v_samples = chroma.v;
+    let y_samples = split_luma(y, luma_at, split_luma_mvs, lower_luma, set, &mut of_luma);
+    let all = of_luma + of_chroma;
     Report {
         prediction: Prediction {
             number,
             samples: ReconstructedMb {
-                y: split_luma(y, luma_at, split_luma_mvs, lower_luma, set, &mut of_luma),
+                y: y_samples,
                 u: u_samples,
                 v: v_samples,
             },
         },
-        fetched: of_luma + of_chroma,
+        fetched: fetched(all),
+        clips: clips(all),
     }
 }
 

@@ -1,15 +1,12 @@
-// The planes of a split macroblock: each 4x4 block is predicted on its own and put in its place. What the blocks fetch is added up.
+// The planes of a split macroblock: each 4x4 block is predicted on its own and put in its place. What the blocks take is added up.
 ghost use mathlib.Core.Path.{_≡_};
 ghost use Prim.Native.Nat.{_+_, _<_, _≤_};
 ghost use mathlib.Core.Bool.{Bool};
-ghost use mathlib.Core.List.{_++_};
-ghost use lib.ListN.{length};
 ghost use Rattle.rfc6386.specs.Vector as vector;
 ghost use Rattle.rfc6386.specs.Picture as picture;
-ghost use Rattle.rfc6386.specs.Fetched.{tilesOf};
 ghost use Rattle.rfc6386.specs.Macroblock as macroblock;
 ghost use Rattle.blocks.specs.Places.{planeAt, Alike};
-ghost use Rattle.prediction.specs.Tiles.{Starts};
+ghost use Rattle.prediction.specs.Tiles.{Starts, tilesTake};
 use blocks::block::tile_into;
 use blocks::chroma::Chroma;
 use blocks::chroma::pair_into;
@@ -40,11 +37,11 @@ pub fn split_luma(
     mvs: [Mv; 16],
     lower: bool,
     set: FilterSet,
-    fetched: &mut u64,
+    all: &mut u64,
 ) -> [u8; 256]
     requires { ⌜ Starts (planeAt (now plane) at) (at .x) (at .y) 16 ⌝ }
     ensures { λ r. ⌜ r ≡ picture.blockBy 16 set (picture.image (planeAt (now (plane .entry)) at)) (at .x) (at .y) (λ r c. vector.lumaVector (vector.fullPixel lower) (vector.sent mvs (macroblock.subblock r c))) ⌝ }
-    ensures { λ _. ⌜ now (fetched .exit) ≡ length (tilesOf 4 (planeAt (now (plane .entry)) at) (at .x) (at .y) (λ b. vector.lumaVector (vector.fullPixel lower) (vector.sent mvs b))) ⌝ }
+    ensures { λ _. ⌜ now (all .exit) ≡ tilesTake 4 set (planeAt (now (plane .entry)) at) (at .x) (at .y) (λ b. vector.lumaVector (vector.fullPixel lower) (vector.sent mvs b)) ⌝ }
 {
     let mut out = [0u8; 256];
     let mut total: u64 = 0;
@@ -63,7 +60,7 @@ pub fn split_luma(
         );
         b += 1;
     }
-    *fetched = total;
+    *all = total;
     out
 }
 
@@ -75,13 +72,13 @@ pub fn split_chroma(
     v_at: Place,
     mvs: [Mv; 4],
     set: FilterSet,
-    fetched: &mut u64,
+    all: &mut u64,
 ) -> Chroma
     requires { ⌜ Starts (planeAt (now u) «u_at») («u_at» .x) («u_at» .y) 8 ⌝ }
     requires { ⌜ Starts (planeAt (now v) «v_at») («v_at» .x) («v_at» .y) 8 ⌝ }
     requires { ⌜ Alike «u_at» «v_at» ⌝ }
     ensures { λ r. ⌜ r ≡ record { u = picture.blockBy 8 set (picture.image (planeAt (now (u .entry)) «u_at»)) («u_at» .x) («u_at» .y) (λ r c. vector.sent mvs (macroblock.quarter r c)); v = picture.blockBy 8 set (picture.image (planeAt (now (v .entry)) «v_at»)) («v_at» .x) («v_at» .y) (λ r c. vector.sent mvs (macroblock.quarter r c)) } ⌝ }
-    ensures { λ _. ⌜ now (fetched .exit) ≡ length (tilesOf 2 (planeAt (now (u .entry)) «u_at») («u_at» .x) («u_at» .y) (vector.sent mvs) ++ tilesOf 2 (planeAt (now (v .entry)) «v_at») («v_at» .x) («v_at» .y) (vector.sent mvs)) ⌝ }
+    ensures { λ _. ⌜ now (all .exit) ≡ tilesTake 2 set (planeAt (now (u .entry)) «u_at») («u_at» .x) («u_at» .y) (vector.sent mvs) + tilesTake 2 set (planeAt (now (v .entry)) «v_at») («v_at» .x) («v_at» .y) (vector.sent mvs) ⌝ }
 {
     let mut u_out = [0u8; 64];
     let mut v_out = [0u8; 64];
@@ -103,6 +100,6 @@ pub fn split_chroma(
         );
         b += 1;
     }
-    *fetched = total;
+    *all = total;
     Chroma { u: u_out, v: v_out }
 }

@@ -4,25 +4,37 @@ use mathlib.Core.Bool.{Bool, true, false, cond, _&&_, _||_}
 use mathlib.Core.Logic.{inl, inr}
 use mathlib.Core.List.{List}
 use Prim.Native.Nat.{ℕ, _+_, _-_, _*_, _/_, _%_, _<_, _≤_}
+use native.Mathlib.Nat.{mul-le-mul}
 use native.Mathlib.Omega.{arith}
 use lib.ListN.{length, getD}
+use lib.IntN.{pos}
 use lib.Seq.{ext-getD}
 use Rattle.rfc6386.specs.Raster.{within}
 use Rattle.rfc6386.specs.Vector.{Lowering, lumaVector, sent}
-use Rattle.rfc6386.specs.Picture.{Plane, Image, block, blockBy}
+use Rattle.rfc6386.specs.Picture.{Plane, Image, image, block, blockBy}
 use Rattle.rfc6386.specs.Fetched.{blockOf, tilesOf}
+use Rattle.rfc6386.specs.Sums.{sumRows}
+use Rattle.rfc6386.specs.Clips.{predictedClip, blockClips, clipsBy}
 use Rattle.rfc6386.specs.Macroblock.{subblock}
 use Rattle.rfc6386.specs.Report.{oneIn, luma}
 use Rattle.rfc6386.specs.Laws.Raster.{raster-ext, getD-written, length-written, written-ext, written-all, Within, within-is}
 use Rattle.rfc6386.specs.Laws.Blocks.{block-at, block-part}
 use Rattle.rfc6386.specs.Laws.Fetched.{cost, length-block, length-tiles, cost-most, total-most, one-in, luma-apart, luma-one, luma-least, luma-split, luma-most}
+use Rattle.rfc6386.specs.Laws.Sums.{rows-ext, sum-quarters}
+use Rattle.rfc6386.specs.Laws.Clipping.{totals-ext, totals-le}
 use Rattle.rfc6386.specs.declared.Mv.{Mv}
 use Rattle.rfc6386.specs.declared.FilterSet.{FilterSet}
+use Rattle.rfc6386.specs.declared.Clips.{Clips}
 use Rattle.steps.specs.Rows.{Room}
 use Rattle.steps.specs.Side.{Side}
+use Rattle.steps.specs.Tally as clip
+use Rattle.steps.specs.Tally.{tallyOf}
 use Rattle.steps.specs.Window.{putAt}
 use Rattle.steps.specs.Laws.Parts.{within-parts}
-use Rattle.quarters.specs.Parts.{Square, part, OneVector}
+use Rattle.steps.specs.Laws.Tallies.{tally-totals}
+use Rattle.blocks.specs.Taken.{taken, blockTakes}
+use Rattle.prediction.specs.Tiles.{tilesTake}
+use Rattle.quarters.specs.Parts.{Square, part, OneVector, squareClips, squareTakes}
 
 -- ---- sides
 -- what arithmetic needs of a side
@@ -226,7 +238,7 @@ module _ (low : Lowering) (p : Plane) (at-x at-y : ℕ) (mvs : List Mv) where
   abbrev once : ℕ → ℕ → ℕ → ℕ
   once n x y = length (blockOf n p (at-x + x) (at-y + y) (lumaVector low (sent mvs (subblock y x))))
 
-  pub not-one : (x y n : ℕ) → (OneVector mvs x y n → ⊥) → oneIn mvs x y n ≡ false
+  not-one : (x y n : ℕ) → (OneVector mvs x y n → ⊥) → oneIn mvs x y n ≡ false
   not-one x y n h = at (oneIn mvs x y n) refl
     where
       at : (b : Bool) → oneIn mvs x y n ≡ b → b ≡ false
@@ -234,7 +246,7 @@ module _ (low : Lowering) (p : Plane) (at-x at-y : ℕ) (mvs : List Mv) where
       at false e = refl
 
   -- one vector: in one go
-  pub count-one : (x y n : ℕ) → Side n → OneVector mvs x y n → once n x y ≡ count n x y
+  count-one : (x y n : ℕ) → Side n → OneVector mvs x y n → once n x y ≡ count n x y
   count-one x y n (inl e) O = subst (λ (k : ℕ). once k x y ≡ count k x y) (sym e) (sym (luma-least low p at-x at-y mvs x y))
   count-one x y n (inr (inl e)) O =
       subst (λ (k : ℕ). once k x y ≡ count k x y) (sym e) (sym (luma-one low p at-x at-y mvs 0 x y (one-in mvs x y 8 .1 (subst (OneVector mvs x y) e O .alike))))
@@ -245,7 +257,7 @@ module _ (low : Lowering) (p : Plane) (at-x at-y : ℕ) (mvs : List Mv) where
   abbrev fours : ℕ → ℕ → ℕ → ℕ
   fours n x y = let h = n / 2 in count h x y + count h (x + h) y + count h x (y + h) + count h (x + h) (y + h)
 
-  pub count-four : (x y n : ℕ) → Side n → (OneVector mvs x y n → ⊥) → (n ≡ 4 → ⊥) → fours n x y ≡ count n x y
+  count-four : (x y n : ℕ) → Side n → (OneVector mvs x y n → ⊥) → (n ≡ 4 → ⊥) → fours n x y ≡ count n x y
   count-four x y n (inl e) O four = absurd (four e)
   count-four x y n (inr (inl e)) O four =
       subst (λ (k : ℕ). fours k x y ≡ count k x y) (sym e) (omega (arith, luma-apart low p at-x at-y mvs 0 x y (not-one x y 8 (λ o. O (subst (OneVector mvs x y) (sym e) o)))))
@@ -267,7 +279,7 @@ module _ (low : Lowering) (p : Plane) (at-x at-y : ℕ) (mvs : List Mv) where
           omega (arith, luma-one low p at-x at-y mvs 0 x y e, length-block 8 p (at-x + x) (at-y + y) v, cost-most 8 v)
       at false e = omega (arith, luma-apart low p at-x at-y mvs 0 x y e, least-few x y, least-few (x + 4) y, least-few x (y + 4), least-few (x + 4) (y + 4))
 
-  pub count-few : (x y n : ℕ) → Side n → n < 16 → count n x y ≤ 324
+  count-few : (x y n : ℕ) → Side n → n < 16 → count n x y ≤ 324
   count-few x y n (inl e) h = subst (λ (k : ℕ). count k x y ≤ 324) (sym e) (omega (arith, least-few x y))
   count-few x y n (inr (inl e)) h = subst (λ (k : ℕ). count k x y ≤ 324) (sym e) (quarter-few x y)
   count-few x y n (inr (inr e)) h = absurd (omega arith)
@@ -276,8 +288,84 @@ module _ (low : Lowering) (p : Plane) (at-x at-y : ℕ) (mvs : List Mv) where
   pub count-most : count 16 0 0 ≤ 1296
   count-most = omega (arith, luma-most low p at-x at-y mvs, total-most 16 81 (λ b. cost 4 (lumaVector low (sent mvs b))) (λ b h. cost-most 4 (lumaVector low (sent mvs b))))
 
-  pub count-split : ((q : ℕ) → q < 4 → OneVector mvs (q % 2 * 8) (q / 2 * 8) 8 → ⊥)
+  count-split : ((q : ℕ) → q < 4 → OneVector mvs (q % 2 * 8) (q / 2 * 8) 8 → ⊥)
       → length (tilesOf 4 p at-x at-y (λ b. lumaVector low (sent mvs b))) ≡ count 16 0 0
   count-split none =
       length-tiles 4 p at-x at-y (λ b. lumaVector low (sent mvs b))
       ∙ sym (luma-split low p at-x at-y mvs (λ q h. not-one (q % 2 * 8) (q / 2 * 8) 8 (none q h)))
+
+-- ---- and what it takes
+module _ (set : FilterSet) (low : Lowering) (p : Plane) (at-x at-y : ℕ) (mvs : List Mv) where
+  abbrev clips : ℕ → ℕ → ℕ → Clips
+  clips n x y = squareClips set low (image p) at-x at-y mvs x y n
+
+  abbrev takes : ℕ → ℕ → ℕ → ℕ
+  takes n x y = squareTakes set low p at-x at-y mvs x y n
+
+  -- one vector: in one go
+  clips-one : (x y n : ℕ) → OneVector mvs x y n → blockClips n set (image p) (at-x + x) (at-y + y) (lumaVector low (sent mvs (subblock y x))) ≡ clips n x y
+  unfolding blockClips clipsBy squareClips
+  clips-one x y n O =
+      totals-ext n _ _
+      (λ r c hr hc.
+      let col : at-x + x + c ≡ at-x + (x + c) = omega arith in
+      let row : at-y + y + r ≡ at-y + (y + r) = omega arith in
+      λ i. predictedClip set (image p) (pos (col i)) (pos (row i)) (lumaVector low (sym (O .alike r c hr hc) i)))
+
+  pub takes-one : (x y n : ℕ) → Side n → OneVector mvs x y n → blockTakes n set p (at-x + x) (at-y + y) (lumaVector low (sent mvs (subblock y x))) ≡ takes n x y
+  takes-one x y n side O = ap₂ (λ (m : ℕ) (k : Clips). taken m k) (count-one low p at-x at-y mvs x y n side O) (clips-one x y n O)
+
+  -- more than one: by its quarters
+  abbrev clipPart : ℕ → ℕ → ℕ
+  clipPart r c = clip.part (predictedClip set (image p) (pos (at-x + c)) (pos (at-y + r)) (lumaVector low (sent mvs (subblock r c))))
+
+  tally-at : (x y n : ℕ) → tallyOf (clips n x y) ≡ sumRows n n (λ r c. clipPart (y + r) (x + c))
+  unfolding squareClips
+  tally-at x y n = sym (tally-totals n _)
+
+  tally-four : (x y h : ℕ) → tallyOf (clips (h + h) x y) ≡ tallyOf (clips h x y) + tallyOf (clips h (x + h) y) + tallyOf (clips h x (y + h)) + tallyOf (clips h (x + h) (y + h))
+  tally-four x y h =
+      tally-at x y (h + h)
+      ∙ sum-quarters h (λ r c. clipPart (y + r) (x + c))
+      ∙ ap₂ _+_
+      (ap₂ _+_
+      (ap₂ _+_ (sym (tally-at x y h))
+      (rows-ext h h _ _ (λ r c hr hc. ap (clipPart (y + r)) (omega arith)) ∙ sym (tally-at (x + h) y h)))
+      (rows-ext h h _ _ (λ r c hr hc. ap (λ (k : ℕ). clipPart k (x + c)) (omega arith)) ∙ sym (tally-at x (y + h) h)))
+      (rows-ext h h _ _ (λ r c hr hc. ap₂ clipPart (omega arith) (omega arith)) ∙ sym (tally-at (x + h) (y + h) h))
+
+  pub takes-four : (x y n : ℕ) → Side n → (OneVector mvs x y n → ⊥) → (n ≡ 4 → ⊥) → n / 2 + n / 2 ≡ n
+      → let h = n / 2 in takes h x y + takes h (x + h) y + takes h x (y + h) + takes h (x + h) (y + h) ≡ takes n x y
+  takes-four x y n side O four twice =
+      plus _ _ _ _ _ _ _ _ _ _ (count-four low p at-x at-y mvs x y n side O four) (ap (λ (m : ℕ). tallyOf (clips m x y)) (sym twice) ∙ tally-four x y (n / 2))
+    where
+      plus : (a b c d s t u v l k : ℕ) → a + b + c + d ≡ l → k ≡ s + t + u + v
+          → a + 4294967296 * s + (b + 4294967296 * t) + (c + 4294967296 * u) + (d + 4294967296 * v) ≡ l + 4294967296 * k
+      plus a b c d s t u v l k e f = omega arith
+
+  -- and it is not much
+  most : (f low high : ℕ) → f ≤ 1296 → low + high ≤ 256 → f + 4294967296 * (low + high + 512 * low) ≤ 1000000000000000
+  most f low high h k = omega arith
+
+  clips-most : (x y n : ℕ) → n ≤ 16 → clips n x y .low + clips n x y .high ≤ 256
+  unfolding squareClips
+  clips-most x y n h = omega (arith, totals-le n (λ r c. predictedClip set (image p) (pos (at-x + (x + c))) (pos (at-y + (y + r))) (lumaVector low (sent mvs (subblock (y + r) (x + c))))), mul-le-mul {n₂ = 16} {m₂ = 16} h h)
+
+  pub takes-few : (x y n : ℕ) → Side n → n < 16 → takes n x y ≤ 1000000000000000
+  takes-few x y n side h = most _ (clips n x y .low) (clips n x y .high) (omega (arith, count-few low p at-x at-y mvs x y n side h)) (clips-most x y n (omega arith))
+
+  pub all-few : takes 16 0 0 ≤ 1000000000000000
+  all-few = most _ (clips 16 0 0 .low) (clips 16 0 0 .high) (count-most low p at-x at-y mvs) (clips-most 0 0 16 (omega arith))
+
+  -- the square of side 16 is all there is
+  pub clips-all : clips 16 0 0 ≡ clipsBy 16 set (image p) at-x at-y (λ r c. lumaVector low (sent mvs (subblock r c)))
+  unfolding squareClips clipsBy
+  clips-all =
+      totals-ext 16 _ _
+      (λ r c hr hc.
+      let col : 0 + c ≡ c = omega arith in
+      let row : 0 + r ≡ r = omega arith in
+      λ i. predictedClip set (image p) (pos (at-x + col i)) (pos (at-y + row i)) (lumaVector low (sent mvs (subblock (row i) (col i)))))
+
+  pub takes-split : ((q : ℕ) → q < 4 → OneVector mvs (q % 2 * 8) (q / 2 * 8) 8 → ⊥) → tilesTake 4 set p at-x at-y (λ b. lumaVector low (sent mvs b)) ≡ takes 16 0 0
+  takes-split none = ap₂ (λ (m : ℕ) (k : Clips). taken m k) (count-split low p at-x at-y mvs none) (sym clips-all)

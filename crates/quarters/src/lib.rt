@@ -11,9 +11,11 @@ ghost use Rattle.rfc6386.specs.Macroblock as macroblock;
 ghost use Rattle.rfc6386.specs.Report as report;
 ghost use Rattle.blocks.specs.Places.{planeAt};
 ghost use Rattle.prediction.specs.Tiles.{Starts};
-ghost use Rattle.quarters.specs.Parts.{Square, part, OneVector};
+ghost use Rattle.quarters.specs.Parts.{Square, part, OneVector, squareTakes};
 use blocks::place::Place;
 use blocks::sided::sided_into;
+use blocks::taken::clips;
+use blocks::taken::fetched;
 use motion_vectors::luma_vector;
 use motion_vectors::same;
 use prediction::predict::split_but_luma;
@@ -62,7 +64,7 @@ fn one_vector(mvs: [Mv; 16], x: usize, y: usize, side: usize) -> bool
     true
 }
 
-// The square of this side at column x, row y of a macroblock's luma, which stands at `at` in the plane; gives how many samples it fetched.
+// The square of this side at column x, row y of a macroblock's luma, which stands at `at` in the plane; gives what it took.
 fn luma_square(
     plane: &[u8],
     at: Place,
@@ -78,7 +80,7 @@ fn luma_square(
     requires { ⌜ Square x y side ⌝ }
     requires { ⌜ length (now out) ≡ 256 ⌝ }
     ensures { λ _. ⌜ now (out .exit) ≡ part (picture.blockBy 16 set (picture.image (planeAt (now (plane .entry)) at)) (at .x) (at .y) (λ r c. vector.lumaVector (vector.fullPixel lower) (vector.sent mvs (macroblock.subblock r c)))) (now (out .entry)) x y side ⌝ }
-    ensures { λ r. ⌜ r ≡ length (report.luma (side / 8) (vector.fullPixel lower) (planeAt (now (plane .entry)) at) (at .x) (at .y) mvs x y) ⌝ }
+    ensures { λ r. ⌜ r ≡ squareTakes set (vector.fullPixel lower) (planeAt (now (plane .entry)) at) (at .x) (at .y) mvs x y side ⌝ }
 {
     if one_vector(mvs, x, y, side) {
         let mv = luma_vector(mvs[y / 4 * 4 + x / 4], lower);
@@ -114,17 +116,17 @@ fn quarters_luma(
     mvs: [Mv; 16],
     lower: bool,
     set: FilterSet,
-    fetched: &mut u64,
+    all: &mut u64,
 ) -> [u8; 256]
     requires { ⌜ Starts (planeAt (now plane) at) (at .x) (at .y) 16 ⌝ }
     ensures { λ r. ⌜ r ≡ picture.blockBy 16 set (picture.image (planeAt (now (plane .entry)) at)) (at .x) (at .y) (λ r c. vector.lumaVector (vector.fullPixel lower) (vector.sent mvs (macroblock.subblock r c))) ⌝ }
-    ensures { λ _. ⌜ now (fetched .exit) ≡ length (report.luma 2 (vector.fullPixel lower) (planeAt (now (plane .entry)) at) (at .x) (at .y) mvs 0 0) ⌝ }
+    ensures { λ _. ⌜ now (all .exit) ≡ squareTakes set (vector.fullPixel lower) (planeAt (now (plane .entry)) at) (at .x) (at .y) mvs 0 0 16 ⌝ }
 {
     if !merges(mvs) {
-        return split_luma(plane, at, mvs, lower, set, fetched);
+        return split_luma(plane, at, mvs, lower, set, all);
     }
     let mut out = [0u8; 256];
-    *fetched = luma_square(plane, at, mvs, lower, set, &mut out, 0, 0, 16);
+    *all = luma_square(plane, at, mvs, lower, set, &mut out, 0, 0, 16);
     out
 }
 
@@ -164,15 +166,18 @@ pub fn predict_quarters(
     let chroma = rest.chroma;
     let u_samples = chroma.u;
     let v_samples = chroma.v;
+    let y_samples = quarters_luma(y, luma_at, split_luma_mvs, full_pixel, set, &mut of_luma);
+    let all = of_luma + of_chroma;
     Report {
         prediction: Prediction {
             number,
             samples: ReconstructedMb {
-                y: quarters_luma(y, luma_at, split_luma_mvs, full_pixel, set, &mut of_luma),
+                y: y_samples,
                 u: u_samples,
                 v: v_samples,
             },
         },
-        fetched: of_luma + of_chroma,
+        fetched: fetched(all),
+        clips: clips(all),
     }
 }

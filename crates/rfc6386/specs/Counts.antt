@@ -13,10 +13,12 @@ use Rattle.rfc6386.specs.Number.{floorDiv}
 use Rattle.rfc6386.specs.Vector.{Lowering, fullPixel, wholePart, fraction, stored, wholeChroma, lowered, each, isWhole, quarterAverage, lumaVector, chromaVector, quarterVector, zeroVector, sent, mergeable, One}
 use Rattle.rfc6386.specs.Picture.{Plane}
 use Rattle.rfc6386.specs.Macroblock.{Reference, planeY, planeU, planeV, refusal, answered, whole, split}
+use Rattle.rfc6386.specs.Clips.{noClips}
 use Rattle.rfc6386.specs.Fetched.{Coordinate, pixelsOf, blockOf, tilesOf}
-use Rattle.rfc6386.specs.Report.{wholeOf, wholePixelOf, splitChromaOf, splitOf, isOne, mergingOf, luma, quartersOf, reported, wholeReport, splitReport, mergingReport, quartersReport}
+use Rattle.rfc6386.specs.Report.{wholeOf, wholePixelOf, splitChromaOf, splitOf, isOne, mergingOf, luma, quartersOf, splitClips, reported, wholeReport, splitReport, mergingReport, quartersReport}
 use Rattle.rfc6386.specs.Telling.{sixteen}
 use Rattle.rfc6386.specs.Merging.{merge-alike}
+use Rattle.rfc6386.specs.Clipping as clipping
 use Rattle.rfc6386.specs.Laws.Vectors.{part, fraction-is, fraction-under}
 use Rattle.rfc6386.specs.Laws.Refusals.{done, refused}
 use Rattle.rfc6386.specs.Laws.Merging.{BothInside, mergeable-true, sent-equal, quarter-equal, chroma-equal, quarter-alike}
@@ -24,6 +26,7 @@ use Rattle.rfc6386.specs.Laws.Fetched.{cost, length-square, length-block
 use Rattle.rfc6386.specs.declared.Mv.{Mv}
 use Rattle.rfc6386.specs.declared.FilterSet.{FilterSet}
 use Rattle.rfc6386.specs.declared.Prediction.{Prediction}
+use Rattle.rfc6386.specs.declared.Clips.{Clips}
 use Rattle.rfc6386.specs.declared.Report.{Report}
 
 -- ---- the macroblock, whatever its number
@@ -112,11 +115,12 @@ module _ (low : Lowering) (ref : Reference) (col row : ℕ) where
   unfolding wholeReport mergingReport
   merging-whole set vs o =
       let same = merge-alike set low ref col row vs (sent vs 0) (o .alike) (o .mergeable-is) in
-      λ i. reported (same i) (sym (merging-one vs o) i)
+      let clips = clipping.merge-alike set low ref col row vs (sent vs 0) (o .alike) (o .mergeable-is) in
+      λ i. reported (same i) (sym (merging-one vs o) i) (clips i)
 
   pub merging-split : (set : FilterSet) (vs : List Mv) → (One vs → ⊥) → splitReport set low ref col row vs ≡ mergingReport set low ref col row vs
   unfolding splitReport mergingReport
-  merging-split set vs h = λ i. reported (split set low ref col row vs) (sym (merging-apart vs h) i)
+  merging-split set vs h = λ i. reported (split set low ref col row vs) (sym (merging-apart vs h) i) (splitClips set low ref col row vs)
 
   whole-most : (vs : List Mv) → One vs → length (wholeOf low ref col row (sent vs 0)) ≤ length (splitOf low ref col row vs)
   whole-most vs o =
@@ -208,9 +212,17 @@ module _ (ref : Reference) (col row : ℕ) where
   split-reaches-most = split-length plain ref col row (sixteen aQuarter)
 
 -- ---- reports
--- THEOREM. An accepted call reports the length of its list, a refused one 0.
-pub accepted-fetched : (p : Prediction) (l : List Coordinate) → p .number ≡ 0 → reported p l .fetched ≡ length l
-accepted-fetched p l e = done (length l) 0 e
+-- THEOREM. An accepted call reports the length of its list and its totals of clipped samples, a refused one zeros.
+pub record Accepted (r : Report) (l : List Coordinate) (k : Clips) : Type 0 where
+  pub fetched-is : r .fetched ≡ length l
+  pub clips-are : r .clips ≡ k
 
-pub refused-fetched : (p : Prediction) (l : List Coordinate) → (p .number ≡ 0 → ⊥) → reported p l .fetched ≡ 0
-refused-fetched p l h = refused (length l) 0 h
+pub accepted-report : (p : Prediction) (l : List Coordinate) (k : Clips) → p .number ≡ 0 → Accepted (reported p l k) l k
+accepted-report p l k e = record { fetched-is = done (length l) 0 e; clips-are = done k noClips e }
+
+pub record Zeros (r : Report) : Type 0 where
+  pub fetched-zero : r .fetched ≡ 0
+  pub clips-zero : r .clips ≡ noClips
+
+pub refused-report : (p : Prediction) (l : List Coordinate) (k : Clips) → (p .number ≡ 0 → ⊥) → Zeros (reported p l k)
+refused-report p l k h = record { fetched-zero = refused (length l) 0 h; clips-zero = refused k noClips h }

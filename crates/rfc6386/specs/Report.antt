@@ -1,16 +1,19 @@
--- What the calls on a macroblock report: the prediction, and how many samples were fetched for it (request K8).
+-- What the calls on a macroblock report: the prediction, how many samples were fetched for it (request K8), and how many were clipped (K14).
 use Prim.Native.Nat.{ℕ, zero, suc, _+_, _*_, _/_, _%_, _^_}
 use mathlib.Core.Bool.{Bool, true, cond, _&&_}
 use mathlib.Core.List.{List, _++_}
 use lib.ListN.{length}
 use lib.Signed.{leZ}
 use Rattle.rfc6386.specs.Vector.{Lowering, lumaVector, chromaVector, quarterVector, sent, mergeable}
-use Rattle.rfc6386.specs.Picture.{Plane}
+use Rattle.rfc6386.specs.Picture.{Plane, image}
+use Rattle.rfc6386.specs.Clips.{noClips, bothClips, clipsBy, blockClips}
 use Rattle.rfc6386.specs.Fetched.{Coordinate, pixelsOf, blockOf, tilesOf}
 use Rattle.rfc6386.specs.Refusal.{ifDone}
-use Rattle.rfc6386.specs.Macroblock.{Reference, planeY, planeU, planeV, subblock, whole, split, wholePixel}
+use Rattle.rfc6386.specs.Block.{counted}
+use Rattle.rfc6386.specs.Macroblock.{Reference, planeY, planeU, planeV, subblock, quarter, whole, split, wholePixel}
 use Rattle.rfc6386.specs.declared.Mv.{Mv}
 use Rattle.rfc6386.specs.declared.FilterSet.{FilterSet}
+use Rattle.rfc6386.specs.declared.Clips.{Clips}
 use Rattle.rfc6386.specs.declared.Prediction.{Prediction}
 use Rattle.rfc6386.specs.declared.Report.{Report}
 
@@ -65,26 +68,39 @@ luma (suc k) low p at-x at-y vs x y =
 unfoldable pub quartersOf : Lowering → Reference → ℕ → ℕ → List Mv → List Coordinate
 quartersOf low ref col row vs = luma 2 low (planeY ref) (col * 16) (row * 16) vs 0 0 ++ splitChromaOf low ref col row vs
 
--- ---- what the calls report: the prediction, and how many samples it fetched, 0 where it refuses
-abbrev pub reported : Prediction → List Coordinate → Report
-reported p l = record { prediction = p; fetched = ifDone (p .number) (length l) 0 }
+-- ---- what is clipped: the totals of the three planes, beside `wholeSamples` and `splitSamples`
+unfoldable pub wholeClips : FilterSet → Lowering → Reference → ℕ → ℕ → Mv → Clips
+wholeClips set low ref col row v =
+    bothClips (blockClips 16 set (image (planeY ref)) (col * 16) (row * 16) (lumaVector low v))
+    (bothClips (blockClips 8 set (image (planeU ref)) (col * 8) (row * 8) (chromaVector low v))
+    (blockClips 8 set (image (planeV ref)) (col * 8) (row * 8) (chromaVector low v)))
+
+unfoldable pub splitClips : FilterSet → Lowering → Reference → ℕ → ℕ → List Mv → Clips
+splitClips set low ref col row vs =
+    bothClips (clipsBy 16 set (image (planeY ref)) (col * 16) (row * 16) (λ r c. lumaVector low (sent vs (subblock r c))))
+    (bothClips (clipsBy 8 set (image (planeU ref)) (col * 8) (row * 8) (λ r c. quarterVector low vs (quarter r c)))
+    (clipsBy 8 set (image (planeV ref)) (col * 8) (row * 8) (λ r c. quarterVector low vs (quarter r c))))
+
+-- ---- what the calls report: the prediction, how many samples it fetched, and how many were clipped, none where it refuses
+abbrev pub reported : Prediction → List Coordinate → Clips → Report
+reported p l k = record { prediction = p; fetched = ifDone (p .number) (length l) 0; clips = counted (p .number) k }
 
 -- predict_inter_mb
 unfoldable pub wholeReport : FilterSet → Lowering → Reference → ℕ → ℕ → Mv → Report
-wholeReport set low ref col row v = reported (whole set low ref col row v) (wholeOf low ref col row v)
+wholeReport set low ref col row v = reported (whole set low ref col row v) (wholeOf low ref col row v) (wholeClips set low ref col row v)
 
 -- predict_inter_mb_whole_pixel
 unfoldable pub wholePixelReport : Lowering → Reference → ℕ → ℕ → Mv → Report
-wholePixelReport low ref col row v = reported (wholePixel low ref col row v) (wholePixelOf low ref col row v)
+wholePixelReport low ref col row v = reported (wholePixel low ref col row v) (wholePixelOf low ref col row v) noClips
 
 -- predict_split_mv
 unfoldable pub splitReport : FilterSet → Lowering → Reference → ℕ → ℕ → List Mv → Report
-splitReport set low ref col row vs = reported (split set low ref col row vs) (splitOf low ref col row vs)
+splitReport set low ref col row vs = reported (split set low ref col row vs) (splitOf low ref col row vs) (splitClips set low ref col row vs)
 
 -- predict_merging
 unfoldable pub mergingReport : FilterSet → Lowering → Reference → ℕ → ℕ → List Mv → Report
-mergingReport set low ref col row vs = reported (split set low ref col row vs) (mergingOf low ref col row vs)
+mergingReport set low ref col row vs = reported (split set low ref col row vs) (mergingOf low ref col row vs) (splitClips set low ref col row vs)
 
 -- predict_quarters
 unfoldable pub quartersReport : FilterSet → Lowering → Reference → ℕ → ℕ → List Mv → Report
-quartersReport set low ref col row vs = reported (split set low ref col row vs) (quartersOf low ref col row vs)
+quartersReport set low ref col row vs = reported (split set low ref col row vs) (quartersOf low ref col row vs) (splitClips set low ref col row vs)

@@ -1,20 +1,26 @@
 -- Strips, laid a row of each at a time, and what a line over them leaves. Assumes nothing.
-use mathlib.Core.Path.{_≡_, sym, ap, ap₂, _∙_}
+use mathlib.Core.Path.{_≡_, refl, sym, ap, ap₂, _∙_}
 use mathlib.Core.List.{List}
-use Prim.Native.Nat.{ℕ, _+_, _-_, _*_, _/_, _%_, _<_, _≤_}
+use Prim.Native.Nat.{ℕ, zero, _+_, _-_, _*_, _/_, _%_, _<_, _≤_}
 use native.Mathlib.Nat.{mod-lt, div-add-mod'}
 use native.Mathlib.Omega.{arith}
 use borrow.Author.Count.{below-more}
 use lib.ListN.{length, getD, replicate, length-replicate, getD-replicate, List·getD-eq-default}
 use lib.IntN.{ℤ}
-use Rattle.rfc6386.specs.Picture.{stepAt}
+use Rattle.rfc6386.specs.Filter.{step}
+use Rattle.rfc6386.specs.Picture.{sixAt, stepAt}
+use Rattle.rfc6386.specs.Sums.{sumTo}
+use Rattle.rfc6386.specs.Clips.{stepClip, clipAt}
+use Rattle.rfc6386.specs.Laws.Sums.{sum-ext, sum-parts}
 use Rattle.steps.specs.Rows.{laid, laidTwice, Low}
-use Rattle.steps.specs.Window.{over, Strips}
-use Rattle.steps.specs.Laws.Copying.{either, laid-in, laid-out, length-laid}
+use Rattle.steps.specs.Tally.{part, stripTally}
+use Rattle.steps.specs.Window.{sixDown, over, Strips}
+use Rattle.steps.specs.Laws.Copying.{either, laid-in, laid-out, laid-parts, length-laid}
 use Rattle.steps.specs.Taps.{twoTaps}
 use Rattle.steps.specs.declared.taps.Taps.{Taps}
 use Rattle.steps.specs.Laws.Twofold.{twice-first, twice-second, twice-else, length-twice}
-use Rattle.steps.specs.Laws.Samples.{stacked}
+use Rattle.steps.specs.Laws.Samples.{stacked-six}
+use Rattle.steps.specs.Laws.Tallies.{says-both}
 
 pub strips-none : {n : ℕ} {f g : ℕ → ℕ → ℕ} {m : List ℕ} → m ≡ replicate n 0 → Strips n 0 f g m
 strips-none {n} {m = m} e =
@@ -25,9 +31,6 @@ strips-none {n} {m = m} e =
       rest = λ i h. zeros i;
     }
   where
-    zero : ℕ
-    zero = 0
-
     count : length m ≡ n
     count = ap length e ∙ length-replicate n zero
 
@@ -111,13 +114,53 @@ strips-laid {n} {rows} {f} {g} h {d} {o} z e room left right =
         ∙ ap (λ (j : ℕ). getD (laid d 0 (rows * 16) h) j 0) (sym q)
         ∙ laid-in d 0 (rows * 16) h i (omega (arith, D .size)) k
 
--- a line of steps down strips
-pub strips-down : {n k rows : ℕ} {f g : ℕ → ℕ → ℕ} {m d o : List ℕ} (ts : List ℤ) → Strips k (rows + 5) f g m → d ≡ replicate n 0 → rows * 16 ≤ n
-    → o ≡ laid d 0 (rows * 16) (λ i. stepAt ts m (0 + i) 16) → Strips n rows (over ts f) (over ts g) o
-strips-down {rows = rows} {f} {g} {m} ts M z room e =
-    strips-laid _ z e room
-    (λ r c hr hc. stacked 16 0 8 rows ts f m (λ q c hq hc. ap (λ (i : ℕ). getD m i 0) (omega arith) ∙ M .left q hq c hc) r c _ hr hc (omega arith))
-    (λ r c hr hc. stacked 16 8 8 rows ts g m (λ q c hq hc. ap (λ (i : ℕ). getD m i 0) (omega arith) ∙ M .right q hq c hc) r c _ hr hc (omega arith))
+-- ---- a line of steps down strips
+-- what it reads
+module _ (rows : ℕ) {k : ℕ} {f g : ℕ → ℕ → ℕ} {m : List ℕ} (M : Strips k (rows + 5) f g m) where
+  left-six : (r c i : ℕ) → r < rows → c < 8 → i ≡ r * 16 + c → sixAt m i 16 ≡ sixDown f r c
+  left-six r c i hr hc e = stacked-six 16 0 8 rows f m (λ q c hq hc. ap (λ (i : ℕ). getD m i 0) (omega arith) ∙ M .left q hq c hc) r c i hr hc (omega arith)
+
+  right-six : (r c i : ℕ) → r < rows → c < 8 → i ≡ r * 16 + (8 + c) → sixAt m i 16 ≡ sixDown g r c
+  right-six r c i hr hc e = stacked-six 16 8 8 rows g m (λ q c hq hc. ap (λ (i : ℕ). getD m i 0) (omega arith) ∙ M .right q hq c hc) r c i hr hc e
+
+  -- laid by two halves, one behind the other
+  pub strips-down : {n : ℕ} (ts : List ℤ) (d o : List ℕ) {o′ : List ℕ} → d ≡ replicate n 0 → rows * 16 ≤ n
+      → o ≡ laid d 0 (rows * 8) (λ i. stepAt ts m (0 + i) 16) → o′ ≡ laid o (rows * 8) (rows * 8) (λ i. stepAt ts m (rows * 8 + i) 16)
+      → Strips n rows (over ts f) (over ts g) o′
+  strips-down {n} ts d o {o′} z room e e′ =
+      strips-laid (λ i. stepAt ts m i 16) z whole room
+      (λ r c hr hc. ap (step ts) (left-six r c _ hr hc refl))
+      (λ r c hr hc. ap (step ts) (right-six r c _ hr hc (omega arith)))
+    where
+      size : length d ≡ n
+      size = ap length z ∙ length-replicate n zero
+
+      half : 0 + rows * 8 ≡ rows * 8
+      half = omega arith
+
+      both : rows * 8 + rows * 8 ≡ rows * 16
+      both = omega arith
+
+      whole : o′ ≡ laid d 0 (rows * 16) (λ i. stepAt ts m i 16)
+      whole =
+          e′
+          ∙ ap₂ (λ (o : List ℕ) (to : ℕ). laid o to (rows * 8) (λ i. stepAt ts m (rows * 8 + i) 16)) e (sym half)
+          ∙ laid-parts d 0 (rows * 8) (rows * 8) _ _ (λ i. stepAt ts m i 16) (omega (arith, size)) (λ i h. ap (λ (i : ℕ). stepAt ts m i 16) (omega arith)) (λ i h. refl)
+          ∙ ap (λ (n : ℕ). laid d 0 n (λ i. stepAt ts m i 16)) both
+
+  -- and the tallies of the halves, together those of the strips
+  pub strips-tally : (ts : List ℤ) {a b : ℕ} → a ≡ sumTo (rows * 8) (λ i. part (clipAt ts m (0 + i) 16)) → b ≡ sumTo (rows * 8) (λ i. part (clipAt ts m (rows * 8 + i) 16))
+      → a + b ≡ stripTally rows (λ r c. stepClip ts (sixDown f r c)) + stripTally rows (λ r c. stepClip ts (sixDown g r c))
+  strips-tally ts ea eb =
+      ap₂ _+_ (ea ∙ sum-ext (rows * 8) _ _ (λ i h. ap (λ (i : ℕ). part (clipAt ts m i 16)) (omega arith))) eb
+      ∙ sym (sum-parts (rows * 8) (rows * 8) (λ i. part (clipAt ts m i 16)))
+      ∙ ap (λ (n : ℕ). sumTo n (λ i. part (clipAt ts m i 16))) both
+      ∙ says-both 8 rows (λ i. clipAt ts m i 16) _ _
+      (λ r c hr hc. ap (stepClip ts) (left-six r c _ hr hc (omega arith)))
+      (λ r c hr hc. ap (stepClip ts) (right-six r c _ hr hc refl))
+    where
+      both : rows * 8 + rows * 8 ≡ rows * (8 + 8)
+      both = omega arith
 
 -- and of steps of two taps
 pub strips-mixed : {n k rows : ℕ} {f g : ℕ → ℕ → ℕ} {m d o : List ℕ} (t : Taps) → Strips k (rows + 1) f g m → d ≡ replicate n 0 → rows * 16 ≤ n

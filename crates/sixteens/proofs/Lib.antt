@@ -2,3 +2,4 @@
 pub mod Halves
 pub mod Rows16
 pub mod Rolls
+pub mod Lanes

@@ -1,20 +1,21 @@
 -- A window that rolls down a first pass: one more row of it, and its ring one place further. Assumes nothing.
 use mathlib.Core.Path.{_≡_, refl, sym, ap, ap₂, _∙_, subst}
-use mathlib.Core.Bool.{Bool, cond}
+use mathlib.Core.Bool.{cond}
 use mathlib.Core.List.{List}
-use Prim.Native.Nat.{ℕ, zero, _+_, _-_, _*_, _%_, _<_, _≤_}
+use Prim.Native.Nat.{ℕ, zero, _+_, _-_, _*_, _<_, _≤_}
 use native.Mathlib.Nat.{add-mul, le-antisymm}
 use native.Mathlib.Omega.{arith}
 use borrow.Author.Count.{below-more}
 use lib.IntN.{ℤ}
 use lib.ListN.{length, getD, replicate, length-replicate, getD-replicate}
-use Rattle.rfc6386.specs.Laws.Steps.{same}
+use Rattle.rfc6386.specs.Filter.{step}
+use Rattle.rfc6386.specs.Laws.Steps.{same-six}
 use Rattle.steps.specs.Rows.{laid, laidTwice, Low}
 use Rattle.steps.specs.Taps.{twoTaps}
-use Rattle.steps.specs.Window.{over, mixAt}
+use Rattle.steps.specs.Window.{sixDown, over, mixAt}
 use Rattle.steps.specs.declared.taps.Taps.{Taps}
-use Rattle.steps.specs.Laws.Copying.{within-cases, getD-laid, length-laid, laid-in, laid-out}
-use Rattle.sixteens.specs.Rolling.{Rolled, below, turn, Rolling, At, Lie, ringStep}
+use Rattle.steps.specs.Laws.Copying.{within-cases, getD-laid, length-laid, laid-in, laid-out, laid-parts}
+use Rattle.sixteens.specs.Rolling.{Rolled, below, turn, Rolling, At, Lie, ringSix, ringStep}
 use Rattle.sixteens.specs.declared.ring.Ring.{Ring}
 
 -- no rows yet
@@ -174,10 +175,10 @@ ring-lies {r} A =
 pub lie-in : {n k : ℕ} {ring : Ring} → k ≡ n → Lie n ring → Lie k ring
 lie-in {ring = ring} e L = subst (λ (n : ℕ). Lie n ring) (sym e) L
 
--- a step down it is one down the pass
-ring-step : {pass : ℕ → ℕ → ℕ} {r : ℕ} {m : List ℕ} {ring : Ring} (ts : List ℤ) → At r ring → Rolling pass r 6 m → (c : ℕ) → c < 16 → ringStep ts m ring c ≡ over ts pass r c
-ring-step {pass} {r} {m} {ring} ts A R c h =
-    same ts _ _ _ _ _ _ _ _ _ _ _ _
+-- six samples down it are six down the pass
+pub ring-six : {pass : ℕ → ℕ → ℕ} {r : ℕ} {m : List ℕ} {ring : Ring} → At r ring → Rolling pass r 6 m → (c : ℕ) → c < 16 → ringSix m ring c ≡ sixDown pass r c
+ring-six {pass} {r} {m} {ring} A R c h =
+    same-six
     (at 0 (ring .a) (A .a) (omega arith) ∙ ap (λ (q : ℕ). pass q c) (omega arith))
     (at 1 (ring .b) (A .b) (omega arith))
     (at 2 (ring .c) (A .c) (omega arith))
@@ -188,10 +189,9 @@ ring-step {pass} {r} {m} {ring} ts A R c h =
     at : (i p : ℕ) → p ≡ turn r i → i < 6 → getD m (p + c) 0 ≡ pass (r + i) c
     at i p e k = ap (λ (p : ℕ). getD m (p + c) 0) e ∙ R .rows .row i k c h
 
--- and a row of steps is a row
-pub ring-row : {pass : ℕ → ℕ → ℕ} {r : ℕ} {m : List ℕ} {ring : Ring} (ts : List ℤ) → At r ring → Rolling pass r 6 m → (q c : ℕ) → q < 1 → c < 16
-    → ringStep ts m ring (q * 16 + c) ≡ over ts pass (r + q) c
-ring-row {pass} {r} {m} {ring} ts A R q c h k =
-    let i : q * 16 + c ≡ c = omega arith in
-    let j : r ≡ r + q = omega arith in
-    ap (ringStep ts m ring) i ∙ ring-step ts A R c k ∙ ap (λ (r : ℕ). over ts pass r c) j
+-- and a row of steps, laid by two halves, is a row
+pub ring-row : {pass : ℕ → ℕ → ℕ} {r : ℕ} {m : List ℕ} {ring : Ring} (ts : List ℤ) → At r ring → Rolling pass r 6 m → (d : List ℕ) {d′ : List ℕ} (to : ℕ) → to + 16 ≤ length d
+    → d′ ≡ laidTwice d to 8 8 (ringStep ts m ring) (λ c. ringStep ts m ring (8 + c)) → d′ ≡ laid d to 16 (over ts pass r)
+ring-row {pass} {r} {m} {ring} ts A R d to room e =
+    e ∙ laid-parts d to 8 8 _ _ (over ts pass r) (omega arith)
+    (λ c h. ap (step ts) (ring-six A R c (omega arith))) (λ c h. ap (step ts) (ring-six A R (8 + c) (omega arith)))

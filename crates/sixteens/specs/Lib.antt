@@ -1,2 +1,3 @@
 -- What functions of this crate promise each other.
+pub mod Lanes
 pub mod Rolling

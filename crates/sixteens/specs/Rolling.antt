@@ -5,6 +5,8 @@ use Prim.Native.Nat.{ℕ, _+_, _*_, _%_, _<_, _≤_}
 use lib.ListN.{length, getD}
 use lib.IntN.{ℤ}
 use Rattle.rfc6386.specs.Filter.{step}
+use Rattle.rfc6386.specs.Clips.{stepClip}
+use Rattle.rfc6386.specs.declared.Clip.{Clip}
 use Rattle.steps.specs.Rows.{Low}
 use Rattle.sixteens.specs.declared.ring.Ring.{Ring}
 
@@ -44,8 +46,12 @@ pub record Lie (n : ℕ) (ring : Ring) : Type 0 where
   pub e : ring .e + 16 ≤ n
   pub f : ring .f + 16 ≤ n
 
--- a step down six rows, in column c
+-- six samples one below the other, in column c; a step over them, and whether it is clipped
+abbrev pub ringSix : List ℕ → Ring → ℕ → List ℕ
+ringSix m ring c = getD m (ring .a + c) 0 ∷ getD m (ring .b + c) 0 ∷ getD m (ring .c + c) 0 ∷ getD m (ring .d + c) 0 ∷ getD m (ring .e + c) 0 ∷ getD m (ring .f + c) 0 ∷ []
+
 abbrev pub ringStep : List ℤ → List ℕ → Ring → ℕ → ℕ
-ringStep ts m ring c =
-    step ts
-    (getD m (ring .a + c) 0 ∷ getD m (ring .b + c) 0 ∷ getD m (ring .c + c) 0 ∷ getD m (ring .d + c) 0 ∷ getD m (ring .e + c) 0 ∷ getD m (ring .f + c) 0 ∷ [])
+ringStep ts m ring c = step ts (ringSix m ring c)
+
+abbrev pub ringClip : List ℤ → List ℕ → Ring → ℕ → Clip
+ringClip ts m ring c = stepClip ts (ringSix m ring c)

@@ -1,16 +1,21 @@
 // Both passes of six taps over a window of 21 by 21 samples, with six rows of the first pass at a time.
 ghost use mathlib.Core.Path.{_≡_};
 ghost use Prim.Native.Nat.{_+_, _<_, _≤_};
-ghost use lib.ListN.{length};
+ghost use lib.ListN.{length, getD};
 ghost use Rattle.rfc6386.specs.Picture.{haloBlock};
-ghost use Rattle.steps.specs.Rows.{laid, Held, Low};
+ghost use Rattle.rfc6386.specs.Sums.{sumTo};
+ghost use Rattle.rfc6386.specs.Clips.{haloClips};
+ghost use Rattle.steps.specs.Rows.{laidTwice, Held, Low};
+ghost use Rattle.steps.specs.Tally.{part, tallyOf};
 ghost use Rattle.steps.specs.Taps.{signedTaps, Small};
 ghost use Rattle.steps.specs.Window.{windowList, along};
-ghost use Rattle.sixteens.specs.Rolling.{Rolling, Lie, ringStep};
+ghost use Rattle.sixteens.specs.Lanes.{Roomy, Added};
+ghost use Rattle.sixteens.specs.Rolling.{Rolling, Lie, ringStep, ringClip};
 use rfc6386::FilterSet;
 use steps::lines::first_line;
 use steps::rect::Window;
-use steps::step::weigh;
+use steps::step::Step;
+use steps::step::counted;
 use steps::taps::Taps;
 use steps::taps::taps_of;
 
@@ -38,27 +43,59 @@ fn turned(ring: Ring) -> Ring
     }
 }
 
-// A row of steps down the window.
-fn ring_line(m: &[u16], ring: Ring, t: Taps, out: &mut [u8], to: usize)
+// A step down the window, in column c.
+fn step_at(m: &[u16], ring: Ring, c: usize, t: Taps) -> Step
+    requires { ⌜ Small t ⌝ }
+    requires { ⌜ Lie (length (now m)) ring ⌝ }
+    requires { ⌜ Low (now m) ⌝ }
+    requires { ⌜ c < 16 ⌝ }
+    ensures { λ r. ⌜ r .sample ≡ ringStep (signedTaps t) (now (m .entry)) ring c ⌝ }
+    ensures { λ r. ⌜ r .part ≡ part (ringClip (signedTaps t) (now (m .entry)) ring c) ⌝ }
+{
+    counted(
+        t,
+        m[ring.a + c],
+        m[ring.b + c],
+        m[ring.c + c],
+        m[ring.d + c],
+        m[ring.e + c],
+        m[ring.f + c],
+    )
+}
+
+// A row of them. Its tally is kept in eight lanes, one for every eighth column: a single number would have to be added up across a vector
+// of the processor for each row.
+fn ring_line(m: &[u16], ring: Ring, t: Taps, out: &mut [u8], to: usize, lanes: &mut [u16])
     requires { ⌜ Small t ⌝ }
     requires { ⌜ Lie (length (now m)) ring ⌝ }
     requires { ⌜ Low (now m) ⌝ }
     requires { ⌜ to + 16 ≤ length (now out) ⌝ }
-    ensures { λ _. ⌜ now (out .exit) ≡ laid (now (out .entry)) to 16 (ringStep (signedTaps t) (now (m .entry)) ring) ⌝ }
+    requires { ⌜ Roomy (now lanes) ⌝ }
+    ensures { λ _. ⌜ now (out .exit) ≡ laidTwice (now (out .entry)) to 8 8 (ringStep (signedTaps t) (now (m .entry)) ring) (λ c. ringStep (signedTaps t) (now (m .entry)) ring (8 + c)) ⌝ }
+    ensures { λ _. ⌜ Added (now (lanes .entry)) (λ c. part (ringClip (signedTaps t) (now (m .entry)) ring c) + part (ringClip (signedTaps t) (now (m .entry)) ring (8 + c))) (now (lanes .exit)) ⌝ }
 {
     let mut c: usize = 0;
-    while c < 16 {
-        out[to + c] = weigh(
-            t,
-            m[ring.a + c],
-            m[ring.b + c],
-            m[ring.c + c],
-            m[ring.d + c],
-            m[ring.e + c],
-            m[ring.f + c],
-        ) as u8;
+    while c < 8 {
+        let s = step_at(m, ring, c, t);
+        let z = step_at(m, ring, 8 + c, t);
+        out[to + c] = s.sample;
+        out[to + 8 + c] = z.sample;
+        lanes[c] += s.part + z.part;
         c += 1;
     }
+}
+
+fn total(lanes: &[u16]) -> u32
+    requires { ⌜ length (now lanes) ≡ 8 ⌝ }
+    ensures { λ r. ⌜ r ≡ sumTo 8 (λ c. getD (now (lanes .entry)) c 0) ⌝ }
+{
+    let mut sum: u32 = 0;
+    let mut c: usize = 0;
+    while c < 8 {
+        sum += lanes[c] as u32;
+        c += 1;
+    }
+    sum
 }
 
 // The first five rows of the first pass, with room for a sixth.
@@ -76,12 +113,13 @@ fn first_five(src: &[u8], window: Window, t: Taps) -> [u16; 96]
     m
 }
 
-// Both passes of six taps.
-pub fn two(src: &[u8], window: Window, mx: usize, my: usize) -> [u8; 256]
+// Both passes of six taps, and in `tally` that of the block.
+pub fn two(src: &[u8], window: Window, mx: usize, my: usize, tally: &mut u32) -> [u8; 256]
     requires { ⌜ Held (length (now src)) (window .at) (window .pitch) 21 21 ⌝ }
     requires { ⌜ mx < 8 ⌝ }
-    requires { ⌜ my < 8 ⌝ }
+    requires { ⌜ (1 ≤ my) × (my < 8) ⌝ }
     ensures { λ r. ⌜ r ≡ haloBlock 16 FilterSet.Sixtap (windowList 21 (now (src .entry)) (window .at) (window .pitch)) mx my ⌝ }
+    ensures { λ _. ⌜ now (tally .exit) ≡ tallyOf (haloClips 16 FilterSet.Sixtap (windowList 21 (now (src .entry)) (window .at) (window .pitch)) mx my) ⌝ }
 {
     let tx = taps_of(FilterSet::Sixtap, mx);
     let ty = taps_of(FilterSet::Sixtap, my);
@@ -95,6 +133,7 @@ pub fn two(src: &[u8], window: Window, mx: usize, my: usize) -> [u8; 256]
         f: 80,
     };
     let mut out = [0u8; 256];
+    let mut lanes = [0u16; 8];
     let mut r: usize = 0;
     while r < 16 {
         first_line(
@@ -106,9 +145,10 @@ pub fn two(src: &[u8], window: Window, mx: usize, my: usize) -> [u8; 256]
             16,
             tx,
         );
-        ring_line(&m, ring, ty, &mut out, r * 16);
+        ring_line(&m, ring, ty, &mut out, r * 16, &mut lanes);
         ring = turned(ring);
         r += 1;
     }
+    *tally = total(&lanes);
     out
 }

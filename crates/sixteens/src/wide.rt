@@ -4,9 +4,12 @@ ghost use Prim.Native.Nat.{_+_, _*_, _<_, _≤_};
 ghost use lib.ListN.{length, getD};
 ghost use Rattle.rfc6386.specs.Raster.{raster};
 ghost use Rattle.rfc6386.specs.Picture.{stepAt, haloBlock};
+ghost use Rattle.rfc6386.specs.Sums.{sumRows};
+ghost use Rattle.rfc6386.specs.Clips.{clipAt, haloClips};
 ghost use Rattle.steps.specs.Rows.{laid, laidTwice, Held};
+ghost use Rattle.steps.specs.Tally.{part, tallyOf};
 ghost use Rattle.steps.specs.Taps.{signedTaps, Small, Middle, twoTaps};
-ghost use Rattle.steps.specs.Window.{windowList, windowBlock, mixAt};
+ghost use Rattle.steps.specs.Window.{windowList, windowBlock, windowClips, mixAt};
 use crate::ring::two;
 use rfc6386::FilterSet;
 use steps::lines::line;
@@ -18,15 +21,17 @@ use steps::taps::taps_of;
 use steps::way::Way;
 
 // One pass of six taps, over samples `gap` apart.
-fn pass(src: &[u8], window: Window, gap: usize, t: Taps) -> [u8; 256]
+fn pass(src: &[u8], window: Window, gap: usize, t: Taps, tally: &mut u32) -> [u8; 256]
     requires { ⌜ Small t ⌝ }
     requires { ⌜ Held (length (now src)) (window .at) (window .pitch) (16 + 5 * gap) 16 ⌝ }
     ensures { λ s. ⌜ s ≡ raster 16 16 (λ r c. stepAt (signedTaps t) (now (src .entry)) (window .at + r * window .pitch + c) gap) ⌝ }
+    ensures { λ _. ⌜ now (tally .exit) ≡ sumRows 16 16 (λ r c. part (clipAt (signedTaps t) (now (src .entry)) (window .at + r * window .pitch + c) gap)) ⌝ }
 {
     let mut out = [0u8; 256];
+    let mut sum: u32 = 0;
     let mut r: usize = 0;
     while r < 16 {
-        line(
+        sum += line(
             src,
             window.at + r * window.pitch,
             gap,
@@ -34,9 +39,10 @@ fn pass(src: &[u8], window: Window, gap: usize, t: Taps) -> [u8; 256]
             r * 16,
             16,
             t,
-        );
+        ) as u32;
         r += 1;
     }
+    *tally = sum;
     out
 }
 
@@ -102,7 +108,7 @@ fn move_row(m: &mut [u8], to: usize, from: usize)
     }
 }
 
-// Both passes of two taps: four rows a turn, out of five of the first pass.
+// Both passes of two taps, which clip nothing: four rows a turn, out of five of the first pass.
 fn mixed(src: &[u8], window: Window, mx: usize, my: usize) -> [u8; 256]
     requires { ⌜ Held (length (now src)) (window .at) (window .pitch) 21 21 ⌝ }
     requires { ⌜ mx < 8 ⌝ }
@@ -128,27 +134,34 @@ fn mixed(src: &[u8], window: Window, mx: usize, my: usize) -> [u8; 256]
     out
 }
 
-fn six_wide(src: &[u8], window: Window, mx: usize, my: usize) -> [u8; 256]
+fn six_wide(src: &[u8], window: Window, mx: usize, my: usize, tally: &mut u32) -> [u8; 256]
     requires { ⌜ Held (length (now src)) (window .at) (window .pitch) 21 21 ⌝ }
     requires { ⌜ mx < 8 ⌝ }
     requires { ⌜ my < 8 ⌝ }
     ensures { λ r. ⌜ r ≡ haloBlock 16 FilterSet.Sixtap (windowList 21 (now (src .entry)) (window .at) (window .pitch)) mx my ⌝ }
+    ensures { λ _. ⌜ now (tally .exit) ≡ tallyOf (haloClips 16 FilterSet.Sixtap (windowList 21 (now (src .entry)) (window .at) (window .pitch)) mx my) ⌝ }
 {
     if mx == 0 {
         let columns = Window {
             at: window.at + 2,
             pitch: window.pitch,
         };
-        return pass(src, columns, window.pitch, taps_of(FilterSet::Sixtap, my));
+        return pass(
+            src,
+            columns,
+            window.pitch,
+            taps_of(FilterSet::Sixtap, my),
+            tally,
+        );
     }
     if my == 0 {
         let rows = Window {
             at: window.at + 2 * window.pitch,
             pitch: window.pitch,
         };
-        return pass(src, rows, 1, taps_of(FilterSet::Sixtap, mx));
+        return pass(src, rows, 1, taps_of(FilterSet::Sixtap, mx), tally);
     }
-    two(src, window, mx, my)
+    two(src, window, mx, my, tally)
 }
 
 fn mixed_wide(src: &[u8], window: Window, mx: usize, my: usize) -> [u8; 256]
@@ -170,15 +183,20 @@ fn mixed_wide(src: &[u8], window: Window, mx: usize, my: usize) -> [u8; 256]
     mixed(src, window, mx, my)
 }
 
-pub fn filter_wide(src: &[u8], window: Window, way: Way) -> [u8; 256]
+// The block, and in `tally` that of it.
+pub fn filter_wide(src: &[u8], window: Window, way: Way, tally: &mut u32) -> [u8; 256]
     requires { ⌜ Held (length (now src)) (window .at) (window .pitch) 21 21 ⌝ }
     requires { ⌜ way .mx < 8 ⌝ }
     requires { ⌜ way .my < 8 ⌝ }
     ensures { λ r. ⌜ r ≡ windowBlock 16 (now (src .entry)) window way ⌝ }
+    ensures { λ _. ⌜ now (tally .exit) ≡ tallyOf (windowClips 16 (now (src .entry)) window way) ⌝ }
 {
     let set = way.set;
     match set {
-        FilterSet::Sixtap => six_wide(src, window, way.mx, way.my),
-        FilterSet::Bilinear => mixed_wide(src, window, way.mx, way.my),
+        FilterSet::Sixtap => six_wide(src, window, way.mx, way.my, tally),
+        FilterSet::Bilinear => {
+            *tally = 0;
+            mixed_wide(src, window, way.mx, way.my)
+        }
     }
 }

@@ -5,4 +5,6 @@ pub mod Windows
 pub mod Bytes
 pub mod Mixing
 pub mod Samples
+pub mod Counting
+pub mod Tallies
 pub mod Parts

@@ -13,10 +13,10 @@ sizesOf t = record { a = t .a; b = t .b; c = t .c; d = t .d; e = t .e; f = t .f 
 abbrev pub signedTaps : Taps → List ℤ
 signedTaps t = signed (sizesOf t)
 
--- products with bytes, summed by sign, fit sixteen bits
+-- products with bytes, summed by sign, fit sixteen bits, and those that are subtracted thirteen
 pub record Small (t : Taps) : Type 0 where
-  pub plus : t .a + t .c + t .d + t .f ≤ 255
-  pub minus : t .b + t .e ≤ 255
+  pub plus : t .a + t .c + t .d + t .f ≤ 160
+  pub minus : t .b + t .e ≤ 32
 
 -- the two middle taps alone, which sum to 128: a step of them never leaves the bytes
 pub record Middle (t : Taps) : Type 0 where

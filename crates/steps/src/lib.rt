@@ -3,6 +3,7 @@ pub mod lines;
 pub mod rect;
 pub mod step;
 mod tables;
+pub mod tally;
 pub mod taps;
 pub mod way;
 

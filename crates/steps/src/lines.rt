@@ -3,24 +3,35 @@ ghost use mathlib.Core.Path.{_≡_};
 ghost use Prim.Native.Nat.{_+_, _*_, _≤_};
 ghost use lib.ListN.{length, getD};
 ghost use Rattle.rfc6386.specs.Picture.{stepAt};
+ghost use Rattle.rfc6386.specs.Sums.{sumTo};
+ghost use Rattle.rfc6386.specs.Clips.{clipAt};
 ghost use Rattle.steps.specs.Rows.{laid, Low};
+ghost use Rattle.steps.specs.Tally.{part};
 ghost use Rattle.steps.specs.Taps.{signedTaps, Small, Middle, twoTaps};
+use crate::step::counted_at;
 use crate::step::kept_at;
 use crate::step::mix_at;
 use crate::step::weigh_at;
 use crate::taps::Taps;
 
-pub fn line(src: &[u8], at: usize, gap: usize, dst: &mut [u8], to: usize, n: usize, t: Taps)
+// The last pass, or the only one: also its tally.
+pub fn line(src: &[u8], at: usize, gap: usize, dst: &mut [u8], to: usize, n: usize, t: Taps) -> u16
     requires { ⌜ Small t ⌝ }
     requires { ⌜ at + n + 5 * gap ≤ length (now src) ⌝ }
     requires { ⌜ to + n ≤ length (now dst) ⌝ }
+    requires { ⌜ n ≤ 64 ⌝ }
     ensures { λ _. ⌜ now (dst .exit) ≡ laid (now (dst .entry)) to n (λ i. stepAt (signedTaps t) (now (src .entry)) (at + i) gap) ⌝ }
+    ensures { λ r. ⌜ r ≡ sumTo n (λ i. part (clipAt (signedTaps t) (now (src .entry)) (at + i) gap)) ⌝ }
 {
+    let mut tally: u16 = 0;
     let mut i: usize = 0;
     while i < n {
-        dst[to + i] = weigh_at(src, at + i, gap, t) as u8;
+        let s = counted_at(src, at + i, gap, t);
+        dst[to + i] = s.sample;
+        tally += s.part;
         i += 1;
     }
+    tally
 }
 
 // The first of two passes: what it leaves is kept in sixteen bits.
@@ -37,19 +48,33 @@ pub fn first_line(src: &[u8], at: usize, gap: usize, dst: &mut [u16], to: usize,
     }
 }
 
-// The second.
-pub fn last_line(src: &[u16], at: usize, gap: usize, dst: &mut [u8], to: usize, n: usize, t: Taps)
+// The second of two.
+pub fn last_line(
+    src: &[u16],
+    at: usize,
+    gap: usize,
+    dst: &mut [u8],
+    to: usize,
+    n: usize,
+    t: Taps,
+) -> u16
     requires { ⌜ Small t ⌝ }
     requires { ⌜ at + n + 5 * gap ≤ length (now src) ⌝ }
     requires { ⌜ to + n ≤ length (now dst) ⌝ }
+    requires { ⌜ n ≤ 64 ⌝ }
     requires { ⌜ Low (now src) ⌝ }
     ensures { λ _. ⌜ now (dst .exit) ≡ laid (now (dst .entry)) to n (λ i. stepAt (signedTaps t) (now (src .entry)) (at + i) gap) ⌝ }
+    ensures { λ r. ⌜ r ≡ sumTo n (λ i. part (clipAt (signedTaps t) (now (src .entry)) (at + i) gap)) ⌝ }
 {
+    let mut tally: u16 = 0;
     let mut i: usize = 0;
     while i < n {
-        dst[to + i] = kept_at(src, at + i, gap, t) as u8;
+        let s = kept_at(src, at + i, gap, t);
+        dst[to + i] = s.sample;
+        tally += s.part;
         i += 1;
     }
+    tally
 }
 
 // Steps of the two middle taps.

@@ -14,6 +14,8 @@ use Rattle.threshowl.specs.Boundary.{kindOf, reportOf}
 use Rattle.rfc6386.specs.declared.Mv.{Mv}
 use Rattle.rfc6386.specs.declared.FilterSet.{FilterSet}
 use Rattle.rfc6386.specs.declared.Report.{Report}
+use Rattle.outputs.specs.Output.{Told}
+use Rattle.outputs.specs.declared.into.Ended.{Ended}
 
 module _ (set : FilterSet) (low : Lowering) (ref : Reference) (col row : ℕ) (vs : List Mv) where
   abbrev by : ℕ → Report
@@ -48,3 +50,7 @@ module _ (set : FilterSet) (low : Lowering) (ref : Reference) (col row : ℕ) (v
       at true h k = absurd (h refl)
       at false h k = absurd (k refl)
   quarters-by (suc (suc (suc n))) h k = refl
+
+-- what is said through pointers is what the call ended with
+pub said : {p : Report} {n : ℕ} {out out′ : List ℕ} {a b : Ended} → a ≡ b → Told p n out a out′ → Told p n out b out′
+said {p} {n} {out} {out′} e t = subst (λ (x : Ended). Told p n out x out′) e t

@@ -1,6 +1,8 @@
-// Prediction for C with a report of how many samples it fetched: whole, split, merging or by quarters, by a code.
+// Prediction for C with a report of how many samples it fetched and how many it clipped: whole, split, merging or by quarters, by a code; and
+// running totals of the latter.
 ghost use mathlib.Core.Path.{_≡_};
 ghost use lib.ListN.{length};
+ghost use Rattle.prediction.specs.Totals.{added};
 ghost use Rattle.outputs.specs.Output.{Told};
 ghost use Rattle.threshowl.specs.Boundary as boundary;
 ghost use Rattle.threshowl.specs.Boundary.{pictureOf, reportCodes, reportBy};
@@ -8,9 +10,11 @@ use crate::boundary::codes_refusal;
 use crate::boundary::set_of;
 use motion_vectors::are_one;
 use numbers::ORDERS;
+use outputs::Ended;
 use outputs::quarters_into;
 use outputs::split_into;
 use outputs::whole_into;
+use prediction::add_clipped;
 use refusals::or_else;
 use refusals::room_refusal;
 use rfc6386::Mv;
@@ -39,6 +43,16 @@ fn kind_of(kind: u8, mvs: [Mv; 16]) -> u8
     1
 }
 
+// Says it through the pointers that C lends.
+fn tell(ended: Ended, fetched: &mut u64, low: &mut u64, high: &mut u64) -> u32
+    ensures { λ r. ⌜ ended ≡ record { number = r; fetched = now (fetched .exit); clips = record { low = now (low .exit); high = now (high .exit) } } ⌝ }
+{
+    *fetched = ended.fetched;
+    *low = ended.clips.low as u64;
+    *high = ended.clips.high as u64;
+    ended.number
+}
+
 #[no_mangle]
 pub extern "C" fn threshowl_predict_report(
     y: &[u8],
@@ -57,8 +71,10 @@ pub extern "C" fn threshowl_predict_report(
     full_pixel: u8,
     out: &mut [u8],
     fetched: &mut u64,
+    clipped_low: &mut u64,
+    clipped_high: &mut u64,
 ) -> u32
-    ensures { λ r. ⌜ Told (reportBy kind filter «full_pixel» (pictureOf (now (y .entry)) (now (u .entry)) (now (v .entry)) «y_stride» «u_stride» «v_stride» «mb_cols» «mb_rows») «mb_col» «mb_row» (now (vectors .entry))) (reportCodes filter (length (now (vectors .entry))) (length (now (out .entry))) kind) (now (out .entry)) (record { number = r; fetched = now (fetched .exit) }) (now (out .exit)) ⌝ }
+    ensures { λ r. ⌜ Told (reportBy kind filter «full_pixel» (pictureOf (now (y .entry)) (now (u .entry)) (now (v .entry)) «y_stride» «u_stride» «v_stride» «mb_cols» «mb_rows») «mb_col» «mb_row» (now (vectors .entry))) (reportCodes filter (length (now (vectors .entry))) (length (now (out .entry))) kind) (now (out .entry)) (record { number = r; fetched = now (fetched .exit); clips = record { low = now («clipped_low» .exit); high = now («clipped_high» .exit) } }) (now (out .exit)) ⌝ }
 {
     let sizes = Sizes {
         y_stride,
@@ -88,8 +104,7 @@ pub extern "C" fn threshowl_predict_report(
             codes,
             out,
         );
-        *fetched = ended.fetched;
-        return ended.number;
+        return tell(ended, fetched, clipped_low, clipped_high);
     }
     if by == 1 {
         let ended = split_into(
@@ -106,10 +121,23 @@ pub extern "C" fn threshowl_predict_report(
             codes,
             out,
         );
-        *fetched = ended.fetched;
-        return ended.number;
+        return tell(ended, fetched, clipped_low, clipped_high);
     }
     let ended = quarters_into(y, u, v, sizes, mb_col, mb_row, mvs, lower, set, codes, out);
-    *fetched = ended.fetched;
-    ended.number
+    tell(ended, fetched, clipped_low, clipped_high)
+}
+
+#[no_mangle]
+pub extern "C" fn threshowl_add_clipped(
+    low: &mut u64,
+    high: &mut u64,
+    mb_low: u64,
+    mb_high: u64,
+) -> u32
+    ensures { λ r. ⌜ added (now (low .entry)) (now (high .entry)) «mb_low» «mb_high» ≡ record { number = r; low = now (low .exit); high = now (high .exit) } ⌝ }
+{
+    let totals = add_clipped(*low, *high, mb_low, mb_high);
+    *low = totals.low;
+    *high = totals.high;
+    totals.number
 }

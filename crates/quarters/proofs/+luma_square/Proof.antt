@@ -3,19 +3,17 @@ use mathlib.Core.Path.{_≡_, sym, ap, ap₂, _∙_, subst}
 use Prim.Native.Nat.{ℕ, _+_, _/_, _^_, _<_, _≤_}
 use native.Mathlib.Omega.{arith}
 use lib.Dec.{T}
-use lib.ListN.{length}
 use borrow.Fn.Kinds.{In}
 use borrow.Fn.PlainCycle.{Measures, is, falls, and}
 use Rattle.rfc6386.specs.Vector.{fullPixel}
 use Rattle.rfc6386.specs.Picture.{image, block}
-use Rattle.rfc6386.specs.Fetched.{blockOf}
-use Rattle.rfc6386.specs.Report.{luma}
 use Rattle.rfc6386.specs.declared.Mv.{Mv}
 use Rattle.steps.specs.Laws.Windows.{put-as}
 use Rattle.blocks.specs.Places.{planeAt, Accepted}
+use Rattle.blocks.specs.Taken.{blockTakes}
 use Rattle.blocks.specs.declared.place.Place.{Place}
-use Rattle.quarters.proofs.Parts.{Quarters, corner, room, quarters, one-of-4, one-part, quarters-are, count-one, count-four, count-few}
-use Rattle.quarters.specs.Parts.{OneVector}
+use Rattle.quarters.proofs.Parts.{Quarters, corner, room, quarters, one-of-4, one-part, quarters-are, takes-one, takes-four, takes-few}
+use Rattle.quarters.specs.Parts.{OneVector, squareTakes}
 use Rattle.quarters.proofs.luma_square.Reads as luma-square
 use Rattle.quarters.proofs.luma_square.Kinds as luma-square-kinds
 use Rattle.quarters.proofs.+luma_square.Lts-luma_square as lts
@@ -41,13 +39,13 @@ calls t =
     (one-vector-reads.Asked, one-vector-reads.Learnt, luma-vector-reads.Asked, luma-vector-reads.Learnt, from-reads.Asked, from-reads.Learnt, sided-into-reads.Asked, sided-into-reads.Learnt, Below t, luma-square.Post)
 
 -- few and few are not many
-two-fit : {a b : ℕ} → a ≤ 324 → b ≤ 324 → a + b < 2 ^ 64
+two-fit : {a b : ℕ} → a ≤ 1000000000000000 → b ≤ 1000000000000000 → a + b < 2 ^ 64
 two-fit h k = omega arith
 
-three-fit : {a b c : ℕ} → a ≤ 324 → b ≤ 324 → c ≤ 324 → a + b + c < 2 ^ 64
+three-fit : {a b c : ℕ} → a ≤ 1000000000000000 → b ≤ 1000000000000000 → c ≤ 1000000000000000 → a + b + c < 2 ^ 64
 three-fit h k l = omega arith
 
-four-fit : {a b c d : ℕ} → a ≤ 324 → b ≤ 324 → c ≤ 324 → d ≤ 324 → a + b + c + d < 2 ^ 64
+four-fit : {a b c d : ℕ} → a ≤ 1000000000000000 → b ≤ 1000000000000000 → c ≤ 1000000000000000 → d ≤ 1000000000000000 → a + b + c + d < 2 ^ 64
 four-fit h k l m = omega arith
 
 module _ (t : ℕ) where
@@ -104,8 +102,8 @@ module _ (t : ℕ) where
             (ap (λ (p : Place). block (g .side) (g .set) (image (planeAt (g .plane .now) p)) (p .x) (p .y) (v .result)) (c .before .before .before .before .from .ensures))
             ∙ one-part (g .side) (g .set) _ (g .at .x) (g .at .y) (fullPixel (g .lower)) _ (g .x) (g .y) (g .out .now) (s .pre .1 .1 .0) same (v .ensures),
         c .before .before .sided-into .ensures .1
-            ∙ ap₂ (λ (p : Place) (m : Mv). length (blockOf (g .side) (planeAt (g .plane .now) p) (p .x) (p .y) m)) (c .before .before .before .before .from .ensures) (v .ensures)
-            ∙ count-one (fullPixel (g .lower)) (planeAt (g .plane .now) (g .at)) (g .at .x) (g .at .y) (g .t3) (g .x) (g .y) (g .side) (s .pre .1 .1 .0 .side) same,
+            ∙ ap₂ (λ (p : Place) (m : Mv). blockTakes (g .side) (g .set) (planeAt (g .plane .now) p) (p .x) (p .y) m) (c .before .before .before .before .from .ensures) (v .ensures)
+            ∙ takes-one (g .set) (fullPixel (g .lower)) (planeAt (g .plane .now) (g .at)) (g .at .x) (g .at .y) (g .t3) (g .x) (g .y) (g .side) (s .pre .1 .1 .0 .side) same,
       )
 
   luma-square-requires : lts.Need-luma-square-requires (calls t) (Given t) luma-square.Post
@@ -172,14 +170,14 @@ module _ (t : ℕ) where
       ∙ c .before .before .before .before .before .before .before .before .before .before .luma-square2 .kept .1 .1 .1 .1 .1 .0
       ∙ c .before .before .before .before .before .before .before .before .before .before .before .before .before .before .luma-square .kept .1 .1 .1 .1 .1 .0
 
-  -- what each quarter fetched is few
+  -- what each quarter took is little
   few : {k : ℕ} (e : lts.Else1 (calls t) (Given t) luma-square.Post) (x y : ℕ) → let g = e .before .before .before .before .args in
-      k ≡ length (luma (g .side / 2 / 8) (fullPixel (g .lower)) (planeAt (g .plane .now) (g .at)) (g .at .x) (g .at .y) (g .t3) x y) → k ≤ 324
+      k ≡ squareTakes (g .set) (fullPixel (g .lower)) (planeAt (g .plane .now) (g .at)) (g .at .x) (g .at .y) (g .t3) x y (g .side / 2) → k ≤ 1000000000000000
   few e x y h =
       let g = e .before .before .before .before .args in
       let q = split e in
       let n : g .side / 2 < 16 = omega (arith, q .twice, q .last .across) in
-      subst (λ (k : ℕ). k ≤ 324) (sym h) (count-few (fullPixel (g .lower)) (planeAt (g .plane .now) (g .at)) (g .at .x) (g .at .y) (g .t3) x y (g .side / 2) (q .first .side) n)
+      subst (λ (k : ℕ). k ≤ 1000000000000000) (sym h) (takes-few (g .set) (fullPixel (g .lower)) (planeAt (g .plane .now) (g .at)) (g .at .x) (g .at .y) (g .t3) x y (g .side / 2) (q .first .side) n)
 
   module _ (c : lts.After-slice-known6 (calls t) (Given t) luma-square.Post) where
     abbrev differ : lts.Else1 (calls t) (Given t) luma-square.Post
@@ -188,16 +186,16 @@ module _ (t : ℕ) where
     abbrev given : lts.Start (calls t) (Given t) luma-square.Post
     given = differ .before .before .before .before
 
-    first-few : c .before .before .before .before .before .before .before .before .before .before .before .before .before .before .luma-square .result ≤ 324
+    first-few : c .before .before .before .before .before .before .before .before .before .before .before .before .before .before .luma-square .result ≤ 1000000000000000
     first-few = few differ (given .args .x) (given .args .y) (c .before .before .before .before .before .before .before .before .before .before .before .before .before .before .luma-square .ensures .1)
 
-    second-few : c .before .before .before .before .before .before .before .before .before .before .luma-square2 .result ≤ 324
+    second-few : c .before .before .before .before .before .before .before .before .before .before .luma-square2 .result ≤ 1000000000000000
     second-few = few differ (given .args .x + given .args .side / 2) (given .args .y) (c .before .before .before .before .before .before .before .before .before .before .luma-square2 .ensures .1)
 
-    third-few : c .before .before .before .before .before .before .luma-square3 .result ≤ 324
+    third-few : c .before .before .before .before .before .before .luma-square3 .result ≤ 1000000000000000
     third-few = few differ (given .args .x) (given .args .y + given .args .side / 2) (c .before .before .before .before .before .before .luma-square3 .ensures .1)
 
-    fourth-few : c .before .before .luma-square4 .result ≤ 324
+    fourth-few : c .before .before .luma-square4 .result ≤ 1000000000000000
     fourth-few = few differ (given .args .x + given .args .side / 2) (given .args .y + given .args .side / 2) (c .before .before .luma-square4 .ensures .1)
 
   add-result : lts.Need-add-result (calls t) (Given t) luma-square.Post
@@ -221,7 +219,7 @@ module _ (t : ℕ) where
       let S = s .pre .1 .1 .0 in (
         quarters-are _ (g .out .now) (g .x) (g .y) (g .side / 2) (g .side) (split e .twice) (first .0) (second .0) (third .0) (fourth .0),
         (λ i. first .1 i + second .1 i + third .1 i + fourth .1 i)
-            ∙ count-four (fullPixel (g .lower)) (planeAt (g .plane .now) (g .at)) (g .at .x) (g .at .y) (g .t3) (g .x) (g .y) (g .side) (S .side) (several e) (λ four. several e (one-of-4 S four)),
+            ∙ takes-four (g .set) (fullPixel (g .lower)) (planeAt (g .plane .now) (g .at)) (g .at .x) (g .at .y) (g .t3) (g .x) (g .y) (g .side) (S .side) (several e) (λ four. several e (one-of-4 S four)) (split e .twice),
       )
 
 pub +luma-square-spec : {M : Type 1} → statement M

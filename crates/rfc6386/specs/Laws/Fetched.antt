@@ -20,6 +20,7 @@ use Rattle.rfc6386.specs.Refusal.{ifDone, planeRefusal}
 use Rattle.rfc6386.specs.Block.{shown, pixels4, pixels8, pixels16, halo9, halo13, halo21}
 use Rattle.rfc6386.specs.Macroblock.{subblock, noSamples, answered}
 use Rattle.rfc6386.specs.Fetched.{Coordinate, squareOf, pixelsOf, haloOf, blockOf, joined, tilesOf}
+use Rattle.rfc6386.specs.Clips.{noClips}
 use Rattle.rfc6386.specs.Report.{every, sameVector, isOne, oneIn, luma, reported}
 use Rattle.rfc6386.specs.Laws.Raster.{length-tab, row-fits}
 use Rattle.rfc6386.specs.Laws.Tests.{and-true}
@@ -27,6 +28,7 @@ use Rattle.rfc6386.specs.Laws.Refusals.{done, refused, refused-is, done-
 use Rattle.rfc6386.specs.Laws.Vectors.{vector}
 use Rattle.rfc6386.specs.declared.Mv.{Mv}
 use Rattle.rfc6386.specs.declared.ReconstructedMb.{ReconstructedMb}
+use Rattle.rfc6386.specs.declared.Clips.{Clips}
 use Rattle.rfc6386.specs.declared.Report.{Report}
 use Rattle.rfc6386.specs.declared.Pixels4.{Pixels4}
 use Rattle.rfc6386.specs.declared.Pixels8.{Pixels8}
@@ -387,16 +389,16 @@ module _ (low : Lowering) (p : Plane) (at-x at-y : ℕ) (vs : List Mv) where
       at false e = omega (arith, luma-apart 1 0 0 e, quarter-least 0 0, quarter-least 8 0, quarter-least 0 8, quarter-least 8 8)
 
 -- ---- what a call reports, by its number n
-pub report-refused : {n m : ℕ} (s : ReconstructedMb) (l : List Coordinate) → n ≡ m → (n ≡ 0 → ⊥)
-    → _≡_ {A = Report} (record { prediction = record { number = n; samples = noSamples }; fetched = 0 }) (reported (answered m s) l)
+pub report-refused : {n m : ℕ} (s : ReconstructedMb) (l : List Coordinate) (k : Clips) → n ≡ m → (n ≡ 0 → ⊥)
+    → _≡_ {A = Report} (record { prediction = record { number = n; samples = noSamples }; fetched = 0; clips = noClips }) (reported (answered m s) l k)
 unfolding answered
-report-refused s l e h =
-    let z = refused (length l) 0 (λ k. h (e ∙ k)) in
-    λ i. record { prediction = refused-is s e h i; fetched = sym z i }
+report-refused {m} s l k e h =
+    let not-zero : m ≡ 0 → ⊥ = (λ z. h (e ∙ z)) in
+    λ i. record { prediction = refused-is s e h i; fetched = sym (refused (length l) 0 not-zero) i; clips = sym (refused k noClips not-zero) i }
 
-pub report-done : {n m k : ℕ} {s s′ : ReconstructedMb} (l : List Coordinate) → n ≡ m → n ≡ 0 → s′ ≡ s → k ≡ length l
-    → _≡_ {A = Report} (record { prediction = record { number = n; samples = s′ }; fetched = k }) (reported (answered m s) l)
+pub report-done : {n m f : ℕ} {s s′ : ReconstructedMb} (l : List Coordinate) {c : Clips} (k : Clips) → n ≡ m → n ≡ 0 → s′ ≡ s → f ≡ length l → c ≡ k
+    → _≡_ {A = Report} (record { prediction = record { number = n; samples = s′ }; fetched = f; clips = c }) (reported (answered m s) l k)
 unfolding answered
-report-done l e h q c =
-    let z = done (length l) 0 (sym e ∙ h) in
-    λ i. record { prediction = done-is e h q i; fetched = (c ∙ sym z) i }
+report-done l k e h q counts clips =
+    let zero-is = sym e ∙ h in
+    λ i. record { prediction = done-is e h q i; fetched = (counts ∙ sym (done (length l) 0 zero-is)) i; clips = (clips ∙ sym (done k noClips zero-is)) i }

@@ -14,8 +14,9 @@ use Rattle.rfc6386.specs.Number.{clamped}
 use Rattle.rfc6386.specs.Vector.{Lowering, wholePart}
 use Rattle.rfc6386.specs.Raster.{raster, written}
 use Rattle.rfc6386.specs.Picture.{Plane, Image, image, predicted, blockBy, block, square, pixels, halo, haloBlock}
+use Rattle.rfc6386.specs.Clips.{noClips, blockClips, haloClips}
 use Rattle.rfc6386.specs.Refusal.{orElse, ifDone, planeRefusal, fractionRefusal, noRoom}
-use Rattle.rfc6386.specs.Block.{shown, fractionsRefusal, filtered4, filtered8, filtered16, pixels4, pixels8, pixels16, halo9, halo13, halo21, block4, intoNumber, intoBytes, Into}
+use Rattle.rfc6386.specs.Block.{shown, counted, fractionsRefusal, filtered4, filtered8, filtered16, pixels4, pixels8, pixels16, halo9, halo13, halo21, block4, intoNumber, intoBytes, Into}
 use Rattle.rfc6386.specs.Macroblock.{Reference, refusal, wholeSamples, splitSamples, pixelSamples, noSamples, answered, fractionLeft, whole, split, wholePixel}
 use Rattle.rfc6386.specs.Channel.{Channel, side, planeIn, samplesIn, wholeVector, tileVector}
 use Rattle.rfc6386.specs.Channel.Channel.{luma, chromaU, chromaV}
@@ -28,9 +29,11 @@ use Rattle.rfc6386.specs.Laws.Blocks.{AllBytes, image-bytes, block-flat,
 use Rattle.rfc6386.specs.Laws.Channels.{by-channels, some-places, channel-bytes, whole-channel, split-channel, pixel-channel}
 use Rattle.rfc6386.specs.Laws.Fetched.{asPixels4, asPixels8, asPixels16, asHalo9, asHalo13, asHalo21, pixels4-is, pixels8-is, pixels16-is, halo9-is, halo13-is, halo21-is}
 use Rattle.rfc6386.specs.Laws.Halos.{halo-flat, halo-between, listImage}
+use Rattle.rfc6386.specs.Laws.Clipping.{block-clips-flat, halo-clips-flat}
 use Rattle.rfc6386.specs.declared.Mv.{Mv}
 use Rattle.rfc6386.specs.declared.FilterSet.{FilterSet}
 use Rattle.rfc6386.specs.declared.FilterSet.the-variants.{Bilinear}
+use Rattle.rfc6386.specs.declared.Clips.{Clips}
 use Rattle.rfc6386.specs.declared.Block4.{Block4}
 use Rattle.rfc6386.specs.declared.Block8.{Block8}
 use Rattle.rfc6386.specs.declared.Block16.{Block16}
@@ -53,14 +56,21 @@ pub answered-same : (n m : ℕ) (s t : ReconstructedMb) → n ≡ m → (n ≡ 0
 unfolding answered
 answered-same n m s t e h = let z = if-done n m s t noSamples e h in λ i. record { number = e i; samples = z i }
 
+-- a call with nothing to count, answered or refused
+none-clipped : (n : ℕ) (k : Clips) → (n ≡ 0 → k ≡ noClips) → counted n k ≡ noClips
+unfolding ifDone
+none-clipped zero k h = h refl
+none-clipped (suc n) k h = refl
+
+-- squares of which none is clipped, and halos
 abbrev asBlock4 : ℕ → List ℕ → Block4
-asBlock4 n l = record { number = n; samples = l }
+asBlock4 n l = record { number = n; clips = noClips; samples = l }
 
 abbrev asBlock8 : ℕ → List ℕ → Block8
-asBlock8 n l = record { number = n; samples = l }
+asBlock8 n l = record { number = n; clips = noClips; samples = l }
 
 abbrev asBlock16 : ℕ → List ℕ → Block16
-asBlock16 n l = record { number = n; samples = l }
+asBlock16 n l = record { number = n; clips = noClips; samples = l }
 
 -- ---- bytes outside the picture alter nothing
 -- two planes that no call at column x, row y tells apart: one number, and one picture wherever that is 0
@@ -110,7 +120,10 @@ module _ (p q : Plane) (x y : ℕ) (S : SamePlane p q x y) where
 
   pub block4-same : (set : FilterSet) (v : Mv) → block4 set p x y v ≡ block4 set q x y v
   unfolding block4
-  block4-same set v = same asBlock4 16 (λ img. block 4 set img x y v)
+  block4-same set v =
+      let clips = if-done _ _ _ _ noClips (S .number) (λ e. ap (λ (img : Image). blockClips 4 set img x y v) (S .picture e)) in
+      let samples = if-done _ _ _ _ (replicate 16 0) (S .number) (λ e. ap (λ (img : Image). block 4 set img x y v) (S .picture e)) in
+      λ i. record { number = S .number i; clips = clips i; samples = samples i }
 
   -- filter_block_4x4_into: the number, and the destination's final bytes, that its contract allows
   pub into-same : {set : FilterSet} {v : Mv} {dst : List ℕ} {stride dx dy r r′ : ℕ} {dst′ dst″ : List ℕ}
@@ -199,7 +212,7 @@ module _ (p : Plane) (x y s : ℕ) (F : Flat p s) where
   squared : (n : ℕ) (X Y : ℤ) → ((a b : ℤ) → image p a b ≡ s) → square n (image p) X Y ≡ replicate (n * n) s
   squared n X Y h = square-flat n (image p) X Y s h ∙ raster-plain n n s
 
-  -- THEOREM. A call on a plane of one value answers that value, or refuses.
+  -- THEOREM. A call on a plane of one value answers that value, none of it clipped, or refuses.
   pub pixels4-flat : (v : Mv) → pixels4 p x y v ≡ asPixels4 (planeRefusal p x y) (shown 16 (planeRefusal p x y) (replicate 16 s))
   pixels4-flat v = pixels4-is p x y v ∙ flat asPixels4 16 _ (squared 4 _ _)
 
@@ -219,8 +232,14 @@ module _ (p : Plane) (x y s : ℕ) (F : Flat p s) where
   halo21-flat v = halo21-is p x y v ∙ flat asHalo21 441 _ (squared 21 _ _)
 
   pub block4-flat : (set : FilterSet) (v : Mv) → block4 set p x y v ≡ asBlock4 (planeRefusal p x y) (shown 16 (planeRefusal p x y) (replicate 16 s))
-  unfolding block4 block
-  block4-flat set v = flat asBlock4 16 _ (λ h. block-flat 4 set (image p) x y s (λ r c. v) (F .byte) h ∙ raster-plain 4 4 s)
+  unfolding block4 block blockClips
+  block4-flat set v =
+      flat (λ n l. record { number = n; clips = clipped n; samples = l }) 16 _ (λ h. block-flat 4 set (image p) x y s (λ r c. v) (F .byte) h ∙ raster-plain 4 4 s)
+      ∙ ap (λ (k : Clips). record { number = planeRefusal p x y; clips = k; samples = shown 16 (planeRefusal p x y) (replicate 16 s) })
+      (none-clipped (planeRefusal p x y) _ (λ e. block-clips-flat 4 set (image p) x y s (λ r c. v) (F .byte) (one-value e)))
+    where
+      clipped : ℕ → Clips
+      clipped n = counted n (blockClips 4 set (image p) x y v)
 
   -- filter_block_4x4_into leaves that value in its sixteen bytes, or refuses and keeps every byte
   pub into-flat : {set : FilterSet} {v : Mv} {dst : List ℕ} {stride dx dy r : ℕ} {dst′ : List ℕ}
@@ -283,25 +302,26 @@ fractions-zero mx my e =
     (omega arith, omega arith)
 
 module _ (set : FilterSet) (l : List ℕ) (mx my s : ℕ) (byte : s ≤ 255) where
-  filters : {A : Type 0} (answer : ℕ → List ℕ → A) (n : ℕ) → ((i : ℕ) → i < (n + 5) * (n + 5) → getD l i 0 ≡ s)
-      → answer (fractionsRefusal mx my) (shown (n * n) (fractionsRefusal mx my) (haloBlock n set l mx my))
-      ≡ answer (fractionsRefusal mx my) (shown (n * n) (fractionsRefusal mx my) (replicate (n * n) s))
+  filters : {A : Type 0} (answer : ℕ → Clips → List ℕ → A) (n : ℕ) → ((i : ℕ) → i < (n + 5) * (n + 5) → getD l i 0 ≡ s)
+      → answer (fractionsRefusal mx my) (counted (fractionsRefusal mx my) (haloClips n set l mx my)) (shown (n * n) (fractionsRefusal mx my) (haloBlock n set l mx my))
+      ≡ answer (fractionsRefusal mx my) noClips (shown (n * n) (fractionsRefusal mx my) (replicate (n * n) s))
   filters answer n h =
-      shown-same answer (n * n) refl
-      (λ e. let f = fractions-zero mx my e in halo-flat n set l mx my s (f .0) (f .1) byte h ∙ raster-plain n n s)
+      ap₂ (answer (fractionsRefusal mx my))
+      (none-clipped (fractionsRefusal mx my) _ (λ e. let f = fractions-zero mx my e in halo-clips-flat n set l mx my s (f .0) (f .1) byte h))
+      (if-done _ _ _ _ _ refl (λ e. let f = fractions-zero mx my e in halo-flat n set l mx my s (f .0) (f .1) byte h ∙ raster-plain n n s))
 
-  -- THEOREM. A filter over a halo of one value answers that value, or refuses.
+  -- THEOREM. A filter over a halo of one value answers that value, none of it clipped, or refuses.
   pub filtered4-flat : ((i : ℕ) → i < 81 → getD l i 0 ≡ s) → filtered4 set l mx my ≡ asBlock4 (fractionsRefusal mx my) (shown 16 (fractionsRefusal mx my) (replicate 16 s))
   unfolding filtered4
-  filtered4-flat = filters asBlock4 4
+  filtered4-flat = filters (λ n k l. record { number = n; clips = k; samples = l }) 4
 
   pub filtered8-flat : ((i : ℕ) → i < 169 → getD l i 0 ≡ s) → filtered8 set l mx my ≡ asBlock8 (fractionsRefusal mx my) (shown 64 (fractionsRefusal mx my) (replicate 64 s))
   unfolding filtered8
-  filtered8-flat = filters asBlock8 8
+  filtered8-flat = filters (λ n k l. record { number = n; clips = k; samples = l }) 8
 
   pub filtered16-flat : ((i : ℕ) → i < 441 → getD l i 0 ≡ s) → filtered16 set l mx my ≡ asBlock16 (fractionsRefusal mx my) (shown 256 (fractionsRefusal mx my) (replicate 256 s))
   unfolding filtered16
-  filtered16-flat = filters asBlock16 16
+  filtered16-flat = filters (λ n k l. record { number = n; clips = k; samples = l }) 16
 
 -- ---- bilinear lies between
 -- each of the n by n samples in l stays within four samples of a picture, those at its place and one on, on both axes; the sample at row r,

@@ -10,7 +10,7 @@ use borrow.Author.Count.{below-more}
 use borrow.Author.Tests.{ltb-true, ltb-false, leb-true, leb-false}
 use lib.Arith.{digits-div, digits-mod}
 use lib.Dec.{leb, ltb}
-use lib.ListN.{length, getD, set, length-set}
+use lib.ListN.{length, getD, set, length-set, List·getD-eq-default}
 use lib.Seq.{getD-set-same, getD-set-other}
 use Rattle.rfc6386.specs.Raster.{tab, within, written}
 use Rattle.rfc6386.specs.Laws.Raster.{is-tab, length-tab, getD-tab, within-true, row-fits, getD-written}
@@ -93,6 +93,39 @@ laid-in d to n f k room h =
 pub laid-out : (d : List ℕ) (to n : ℕ) (f : ℕ → ℕ) (i : ℕ) → i < length d → (to ≤ i → i < to + n → ⊥) → getD (laid d to n f) i 0 ≡ getD d i 0
 laid-out d to n f i h out =
     getD-laid d to n f i h ∙ ap (λ (b : Bool). cond b (f (i - to)) (getD d i 0)) (within-false to n i out)
+
+-- two rows one behind the other are one
+pub laid-parts : (d : List ℕ) (to a b : ℕ) (f g h : ℕ → ℕ) → to + a + b ≤ length d → ((i : ℕ) → i < a → f i ≡ h i) → ((i : ℕ) → i < b → g i ≡ h (a + i))
+    → laid (laid d to a f) (to + a) b g ≡ laid d to (a + b) h
+laid-parts d to a b f g h room ef eg = laying-all {c = a + b} whole (omega arith)
+  where
+    size : length (laid d to a f) ≡ length d
+    size = length-laid d to a f
+
+    first : (k : ℕ) → k < a → getD (laid (laid d to a f) (to + a) b g) (to + k) 0 ≡ h k
+    first k l = laid-out (laid d to a f) (to + a) b g (to + k) (omega (arith, size)) (λ p q. omega arith) ∙ laid-in d to a f k (omega arith) l ∙ ef k l
+
+    second : (k : ℕ) → k < b → getD (laid (laid d to a f) (to + a) b g) (to + a + k) 0 ≡ h (a + k)
+    second k l = laid-in (laid d to a f) (to + a) b g k (omega (arith, size)) l ∙ eg k l
+
+    whole : Laying d to (a + b) h (laid (laid d to a f) (to + a) b g) (a + b)
+    whole =
+        record {
+          most = omega arith;
+          size = length-laid (laid d to a f) (to + a) b g ∙ size;
+          done = λ k l.
+              either k a (first k)
+              (λ m.
+              let i : to + a + (k - a) ≡ to + k = omega arith in
+              let j : a + (k - a) ≡ k = omega arith in
+              ap (λ (n : ℕ). getD (laid (laid d to a f) (to + a) b g) n 0) (sym i) ∙ second (k - a) (omega arith) ∙ ap h j);
+          rest = λ i out.
+              either i (length d)
+              (λ l. laid-out (laid d to a f) (to + a) b g i (omega (arith, size)) (λ p q. out (omega arith) (omega arith)) ∙ laid-out d to a f i l (λ p q. out p (omega arith)))
+              (λ l.
+              List·getD-eq-default (laid (laid d to a f) (to + a) b g) 0 (omega (arith, size, length-laid (laid d to a f) (to + a) b g))
+              ∙ sym (List·getD-eq-default d 0 (omega arith)));
+        }
 
 -- a row over all of a list
 pub laid-over : (d : List ℕ) (n : ℕ) (f : ℕ → ℕ) → length d ≡ n → laid d 0 n f ≡ tab n f

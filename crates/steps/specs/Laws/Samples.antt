@@ -1,19 +1,21 @@
 -- What a pass leaves at a place is the sample of the window there: both steps, one of them where the other fraction is 0, and the same with two
--- taps. Assumes nothing.
+-- taps; and where it is clipped, that sample is. Assumes nothing.
 use mathlib.Core.Path.{_≡_, refl, sym, ap, ap₂, _∙_}
 use mathlib.Core.List.{List}
-use Prim.Native.Nat.{ℕ, _+_, _*_, _<_}
+use Prim.Native.Nat.{ℕ, zero, suc, _+_, _*_, _<_, _≤_}
 use native.Mathlib.Nat.{add-mul}
 use native.Mathlib.Omega.{arith}
 use lib.IntN.{ℤ}
 use lib.ListN.{getD}
-use Rattle.rfc6386.specs.Filter.{tapsOf}
-use Rattle.rfc6386.specs.Picture.{stepAt}
-use Rattle.rfc6386.specs.Laws.Steps.{same, step-zero, step-le}
+use Rattle.rfc6386.specs.Filter.{tapsOf, step}
+use Rattle.rfc6386.specs.Picture.{sixAt, stepAt}
+use Rattle.rfc6386.specs.Clips.{stepClip, clipAt}
+use Rattle.rfc6386.specs.Laws.Steps.{same-six, step-zero, step-le}
+use Rattle.rfc6386.specs.Laws.Clipping.{clip-zero}
 use Rattle.rfc6386.specs.declared.FilterSet.{FilterSet}
 use Rattle.rfc6386.specs.declared.FilterSet.the-variants.{Bilinear}
 use Rattle.steps.specs.Taps.{signedTaps, Middle, twoTaps}
-use Rattle.steps.specs.Window.{along, over, windowSample, mixAt}
+use Rattle.steps.specs.Window.{along, sixDown, over, windowSample, windowClip, mixAt}
 use Rattle.steps.specs.declared.taps.Taps.{Taps}
 use Rattle.steps.specs.Laws.Mixing.{two-taps}
 
@@ -21,11 +23,11 @@ use Rattle.steps.specs.Laws.Mixing.{two-taps}
 abbrev pub Has : ℕ → ℕ → ℕ → ℕ → List ℕ → (ℕ → ℕ → ℕ) → Type 0
 Has s x w rows z g = (q c : ℕ) → q < rows → c < w → getD z (q * s + (x + c)) 0 ≡ g q c
 
--- a step down such a list
-pub stacked : (s x w rows : ℕ) (ts : List ℤ) (g : ℕ → ℕ → ℕ) (z : List ℕ) → Has s x w (rows + 5) z g → (r c i : ℕ) → r < rows → c < w → i ≡ r * s + (x + c)
-    → stepAt ts z i s ≡ over ts g r c
-stacked s x w rows ts g z H r c i hr hc ei =
-    same ts _ _ _ _ _ _ _ _ _ _ _ _
+-- six samples down such a list, and a step over them
+pub stacked-six : (s x w rows : ℕ) (g : ℕ → ℕ → ℕ) (z : List ℕ) → Has s x w (rows + 5) z g → (r c i : ℕ) → r < rows → c < w → i ≡ r * s + (x + c)
+    → sixAt z i s ≡ sixDown g r c
+stacked-six s x w rows g z H r c i hr hc ei =
+    same-six
     (at r _ (omega arith) (omega arith))
     (at (r + 1) _ (omega arith) (omega (arith, add-mul r 1 s)))
     (at (r + 2) _ (omega arith) (omega (arith, add-mul r 2 s)))
@@ -36,6 +38,10 @@ stacked s x w rows ts g z H r c i hr hc ei =
     at : (q n : ℕ) → q < rows + 5 → n ≡ q * s + (x + c) → getD z n 0 ≡ g q c
     at q n hq en = ap (λ (i : ℕ). getD z i 0) en ∙ H q c hq hc
 
+pub stacked : (s x w rows : ℕ) (ts : List ℤ) (g : ℕ → ℕ → ℕ) (z : List ℕ) → Has s x w (rows + 5) z g → (r c i : ℕ) → r < rows → c < w → i ≡ r * s + (x + c)
+    → stepAt ts z i s ≡ over ts g r c
+stacked s x w rows ts g z H r c i hr hc ei = ap (step ts) (stacked-six s x w rows g z H r c i hr hc ei)
+
 module _ (set : FilterSet) (src : List ℕ) (at pitch : ℕ) where
   -- both steps
   pub two-sample : (tx ty : List ℤ) (mx my r c : ℕ) → tx ≡ tapsOf set mx → ty ≡ tapsOf set my → over ty (along tx src at pitch) r c ≡ windowSample set src at pitch mx my r c
@@ -43,14 +49,16 @@ module _ (set : FilterSet) (src : List ℕ) (at pitch : ℕ) where
   two-sample tx ty mx my r c ex ey = ap₂ (λ (tx ty : List ℤ). over ty (along tx src at pitch) r c) ex ey
 
   -- a window that begins k rows further down
-  pub lower-sample : (k mx my r c : ℕ) → windowSample set src (at + k * pitch) pitch mx my r c ≡ windowSample set src at pitch mx my (k + r) c
-  unfolding windowSample
-  lower-sample k mx my r c =
-      same (tapsOf set my) _ _ _ _ _ _ _ _ _ _ _ _
-      (row r _ (omega arith)) (row (r + 1) _ (omega arith)) (row (r + 2) _ (omega arith)) (row (r + 3) _ (omega arith)) (row (r + 4) _ (omega arith)) (row (r + 5) _ (omega arith))
+  lower-six : (k mx r c : ℕ) → sixDown (along (tapsOf set mx) src (at + k * pitch) pitch) r c ≡ sixDown (along (tapsOf set mx) src at pitch) (k + r) c
+  lower-six k mx r c =
+      same-six (row r _ (omega arith)) (row (r + 1) _ (omega arith)) (row (r + 2) _ (omega arith)) (row (r + 3) _ (omega arith)) (row (r + 4) _ (omega arith)) (row (r + 5) _ (omega arith))
     where
       row : (q i : ℕ) → i ≡ k + q → along (tapsOf set mx) src (at + k * pitch) pitch q c ≡ along (tapsOf set mx) src at pitch i c
       row q i e = ap (λ (j : ℕ). stepAt (tapsOf set mx) src j 1) (omega (arith, add-mul k q pitch, ap (λ (j : ℕ). j * pitch) e))
+
+  pub lower-sample : (k mx my r c : ℕ) → windowSample set src (at + k * pitch) pitch mx my r c ≡ windowSample set src at pitch mx my (k + r) c
+  unfolding windowSample
+  lower-sample k mx my r c = ap (step (tapsOf set my)) (lower-six k mx r c)
 
   -- the first alone, from row 2 on
   pub across-sample : (ts : List ℤ) (mx r c : ℕ) → ts ≡ tapsOf set mx → stepAt ts src (at + 2 * pitch + r * pitch + c) 1 ≡ windowSample set src at pitch mx 0 r c
@@ -60,12 +68,9 @@ module _ (set : FilterSet) (src : List ℕ) (at pitch : ℕ) where
       ∙ sym (step-zero set _ _ (along (tapsOf set mx) src at pitch (r + 2) c) _ _ _ (step-le _ _))
 
   -- the second alone, from column 2 on
-  pub down-sample : ((i : ℕ) → getD src i 0 < 256) → (ts : List ℤ) (my r c : ℕ) → ts ≡ tapsOf set my
-      → stepAt ts src (at + 2 + r * pitch + c) pitch ≡ windowSample set src at pitch 0 my r c
-  unfolding windowSample
-  down-sample bytes ts my r c e =
-      ap (λ (ts : List ℤ). stepAt ts src (at + 2 + r * pitch + c) pitch) e
-      ∙ same (tapsOf set my) _ _ _ _ _ _ _ _ _ _ _ _
+  down-six : ((i : ℕ) → getD src i 0 < 256) → (r c : ℕ) → sixAt src (at + 2 + r * pitch + c) pitch ≡ sixDown (along (tapsOf set 0) src at pitch) r c
+  down-six bytes r c =
+      same-six
       (row r _ (omega arith))
       (row (r + 1) _ (omega (arith, add-mul r 1 pitch)))
       (row (r + 2) _ (omega (arith, add-mul r 2 pitch)))
@@ -78,6 +83,11 @@ module _ (set : FilterSet) (src : List ℕ) (at pitch : ℕ) where
           ap (λ (k : ℕ). getD src k 0) ei
           ∙ sym (step-zero set _ _ (getD src (at + q * pitch + c + 2 * 1) 0) _ _ _ (omega (arith, bytes (at + q * pitch + c + 2 * 1))))
 
+  pub down-sample : ((i : ℕ) → getD src i 0 < 256) → (ts : List ℤ) (my r c : ℕ) → ts ≡ tapsOf set my
+      → stepAt ts src (at + 2 + r * pitch + c) pitch ≡ windowSample set src at pitch 0 my r c
+  unfolding windowSample
+  down-sample bytes ts my r c e = ap₂ step e (down-six bytes r c)
+
   -- neither, from row 2, column 2 on
   pub middle-sample : ((i : ℕ) → getD src i 0 < 256) → (r c : ℕ) → getD src (at + 2 * pitch + 2 + r * pitch + c) 0 ≡ windowSample set src at pitch 0 0 r c
   middle-sample bytes r c =
@@ -85,6 +95,41 @@ module _ (set : FilterSet) (src : List ℕ) (at pitch : ℕ) where
       ap (λ (k : ℕ). getD src k 0) (omega arith)
       ∙ sym (step-zero set _ _ (getD src i 0) _ _ _ (omega (arith, bytes i)))
       ∙ across-sample (tapsOf set 0) 0 r c refl
+
+  -- ---- the same of what is clipped: by the second step, where it has a fraction,
+  pub two-clip : (tx ty : List ℤ) (mx my r c : ℕ) → tx ≡ tapsOf set mx → ty ≡ tapsOf set my → 1 ≤ my
+      → stepClip ty (sixDown (along tx src at pitch) r c) ≡ windowClip set src at pitch mx my r c
+  unfolding windowClip
+  two-clip tx ty mx zero r c ex ey h = absurd (omega arith)
+  two-clip tx ty mx (suc my) r c ex ey h = ap₂ (λ (tx ty : List ℤ). stepClip ty (sixDown (along tx src at pitch) r c)) ex ey
+
+  -- by the first alone,
+  pub across-clip : ((i : ℕ) → getD src i 0 < 256) → (ts : List ℤ) (mx r c : ℕ) → ts ≡ tapsOf set mx
+      → clipAt ts src (at + 2 * pitch + r * pitch + c) 1 ≡ windowClip set src at pitch mx 0 r c
+  unfolding windowClip
+  across-clip bytes ts zero r c e =
+      let i = at + 2 * pitch + r * pitch + c in
+      ap (λ (ts : List ℤ). clipAt ts src i 1) e ∙ clip-zero set _ _ (getD src (i + 2 * 1) 0) _ _ _ (omega (arith, bytes (i + 2 * 1)))
+  across-clip bytes ts (suc mx) r c e = ap₂ (λ (ts : List ℤ) (i : ℕ). clipAt ts src i 1) e (omega (arith, add-mul r 2 pitch))
+
+  -- by the second alone
+  pub down-clip : ((i : ℕ) → getD src i 0 < 256) → (ts : List ℤ) (my r c : ℕ) → ts ≡ tapsOf set my
+      → clipAt ts src (at + 2 + r * pitch + c) pitch ≡ windowClip set src at pitch 0 my r c
+  unfolding windowClip
+  down-clip bytes ts zero r c e =
+      let i = at + 2 + r * pitch + c in
+      ap (λ (ts : List ℤ). clipAt ts src i pitch) e ∙ clip-zero set _ _ (getD src (i + 2 * pitch) 0) _ _ _ (omega (arith, bytes (i + 2 * pitch)))
+  down-clip bytes ts (suc my) r c e = ap₂ stepClip e (down-six bytes r c)
+
+  -- and in a window that begins k rows further down
+  pub lower-clip : (k mx my r c : ℕ) → windowClip set src (at + k * pitch) pitch mx my r c ≡ windowClip set src at pitch mx my (k + r) c
+  unfolding windowClip
+  lower-clip k zero zero r c = refl
+  lower-clip k (suc mx) zero r c = ap (λ (i : ℕ). clipAt (tapsOf set (suc mx)) src i 1) (omega (arith, add-mul k (r + 2) pitch, ap (λ (j : ℕ). j * pitch) (further k r 2)))
+    where
+      further : (k r n : ℕ) → k + r + n ≡ k + (r + n)
+      further k r n = omega arith
+  lower-clip k mx (suc my) r c = ap (stepClip (tapsOf set (suc my))) (lower-six k mx r c)
 
 -- ---- two taps, from row 2, column 2 on
 module _ (src : List ℕ) (at pitch : ℕ) (bytes : (i : ℕ) → getD src i 0 < 256) where

@@ -2,32 +2,33 @@
 use mathlib.Core.Path.{_≡_, refl, sym, ap, ap₂, _∙_}
 use mathlib.Core.Bool.{Bool, true, false, cond}
 use mathlib.Core.List.{List}
-use Prim.Native.Nat.{ℕ, _+_, _-_, _*_, _<_, _≤_}
+use Prim.Native.Nat.{ℕ, zero, suc, _+_, _-_, _*_, _<_, _≤_}
 use native.Mathlib.Nat.{add-mul}
 use native.Mathlib.Omega.{arith}
 use borrow.Author.Tests.{lt-ltb, le-ltb}
 use lib.Dec.{ltb}
 use lib.IntN.{ℤ}
 use lib.ListN.{length, getD}
-use Rattle.rfc6386.specs.Filter.{tapsOf}
+use Rattle.rfc6386.specs.Filter.{tapsOf, step}
 use Rattle.rfc6386.specs.Raster.{raster, written}
-use Rattle.rfc6386.specs.Picture.{stepAt, haloSample, haloBlock}
+use Rattle.rfc6386.specs.Picture.{sixAt, stepAt, haloSample, haloBlock}
+use Rattle.rfc6386.specs.Clips.{stepClip, haloClip, haloClips}
 use Rattle.rfc6386.specs.Laws.Raster.{is-tab, length-raster, getD-raster, raster-ext, tab-raster, written-all, written-ext}
-use Rattle.rfc6386.specs.Laws.Steps.{same}
+use Rattle.rfc6386.specs.Laws.Steps.{same-six}
 use Rattle.rfc6386.specs.declared.FilterSet.{FilterSet}
 use Rattle.steps.specs.Rows.{Held}
-use Rattle.steps.specs.Window.{windowList, putAt, beside, along, windowSample}
+use Rattle.steps.specs.Window.{windowList, putAt, beside, along, sixDown, windowSample, windowClip}
 
 module _ (n : ℕ) (src : List ℕ) (at pitch : ℕ) where
   pub window-at : (r c : ℕ) → r < n → c < n → getD (windowList n src at pitch) (r * n + c) 0 ≡ getD src (at + r * pitch + c) 0
   unfolding windowList
   window-at r c hr hc = getD-raster n n _ r c hr hc
 
--- THEOREM. A step over six neighbours of the list is the step over six neighbours of the window.
-pub window-step : (ts : List ℤ) (n : ℕ) (src : List ℕ) (at pitch r c : ℕ) → r < n → c + 5 < n
-    → stepAt ts (windowList n src at pitch) (r * n + c) 1 ≡ stepAt ts src (at + r * pitch + c) 1
-window-step ts n src at pitch r c hr hc =
-    same ts _ _ _ _ _ _ _ _ _ _ _ _
+-- THEOREM. Six neighbours of the list are six neighbours of the window, and a step over the ones is a step over the others.
+pub window-six : (n : ℕ) (src : List ℕ) (at pitch r c : ℕ) → r < n → c + 5 < n
+    → sixAt (windowList n src at pitch) (r * n + c) 1 ≡ sixAt src (at + r * pitch + c) 1
+window-six n src at pitch r c hr hc =
+    same-six
     (one 0 _ _ (omega arith) (omega arith) (omega arith)) (one 1 _ _ (omega arith) (omega arith) (omega arith)) (one 2 _ _ (omega arith) (omega arith) (omega arith))
     (one 3 _ _ (omega arith) (omega arith) (omega arith)) (one 4 _ _ (omega arith) (omega arith) (omega arith)) (one 5 _ _ (omega arith) (omega arith) (omega arith))
   where
@@ -36,6 +37,10 @@ window-step ts n src at pitch r c hr hc =
         ap (λ (k : ℕ). getD (windowList n src at pitch) k 0) ep
         ∙ window-at n src at pitch r (c + i) hr (omega arith)
         ∙ ap (λ (k : ℕ). getD src k 0) (sym eq)
+
+pub window-step : (ts : List ℤ) (n : ℕ) (src : List ℕ) (at pitch r c : ℕ) → r < n → c + 5 < n
+    → stepAt ts (windowList n src at pitch) (r * n + c) 1 ≡ stepAt ts src (at + r * pitch + c) 1
+window-step ts n src at pitch r c hr hc = ap (step ts) (window-six n src at pitch r c hr hc)
 
 -- a list by its rows
 pub raster-of : (rows w : ℕ) (f : ℕ → ℕ → ℕ) (l : List ℕ) → length l ≡ rows * w
@@ -48,16 +53,28 @@ unfolding windowList
 window-whole n l e = sym (raster-of n n _ l e (λ r c hr hc. ap (λ (k : ℕ). getD l k 0) (omega arith)))
 
 module _ (w : ℕ) (set : FilterSet) (src : List ℕ) (at pitch : ℕ) where
-  -- THEOREM (the key). Both steps over the window are the sample of the block in the window as a list.
-  pub window-sample : (mx my r c : ℕ) → r < w → c < w
-      → windowSample set src at pitch mx my r c ≡ haloSample set (windowList (w + 5) src at pitch) (w + 5) mx my r c
-  unfolding haloSample windowSample
-  window-sample mx my r c hr hc =
-      same (tapsOf set my) _ _ _ _ _ _ _ _ _ _ _ _
-      (row r (omega arith)) (row (r + 1) (omega arith)) (row (r + 2) (omega arith)) (row (r + 3) (omega arith)) (row (r + 4) (omega arith)) (row (r + 5) (omega arith))
+  -- six horizontal steps above each other
+  window-down : (mx r c : ℕ) → r < w → c < w
+      → sixDown (along (tapsOf set mx) src at pitch) r c ≡ sixDown (λ q c. stepAt (tapsOf set mx) (windowList (w + 5) src at pitch) (q * (w + 5) + c) 1) r c
+  window-down mx r c hr hc =
+      same-six (row r (omega arith)) (row (r + 1) (omega arith)) (row (r + 2) (omega arith)) (row (r + 3) (omega arith)) (row (r + 4) (omega arith)) (row (r + 5) (omega arith))
     where
       row : (q : ℕ) → q < w + 5 → along (tapsOf set mx) src at pitch q c ≡ stepAt (tapsOf set mx) (windowList (w + 5) src at pitch) (q * (w + 5) + c) 1
       row q hq = sym (window-step (tapsOf set mx) (w + 5) src at pitch q c hq (omega arith))
+
+  -- THEOREM (the key). Both steps over the window are the sample of the block in the window as a list,
+  pub window-sample : (mx my r c : ℕ) → r < w → c < w
+      → windowSample set src at pitch mx my r c ≡ haloSample set (windowList (w + 5) src at pitch) (w + 5) mx my r c
+  unfolding haloSample windowSample
+  window-sample mx my r c hr hc = ap (step (tapsOf set my)) (window-down mx r c hr hc)
+
+  -- and clipped where that is.
+  pub window-clip : (mx my r c : ℕ) → r < w → c < w
+      → windowClip set src at pitch mx my r c ≡ haloClip set (windowList (w + 5) src at pitch) (w + 5) mx my r c
+  unfolding haloClip windowClip
+  window-clip zero zero r c hr hc = refl
+  window-clip (suc mx) zero r c hr hc = ap (stepClip (tapsOf set (suc mx))) (sym (window-six (w + 5) src at pitch (r + 2) c (omega arith) (omega arith)))
+  window-clip mx (suc my) r c hr hc = ap (stepClip (tapsOf set (suc my))) (window-down mx r c hr hc)
 
   -- so that a block of such samples is the block in the list
   pub window-block : (mx my : ℕ) (f : ℕ → ℕ → ℕ) → ((r c : ℕ) → r < w → c < w → f r c ≡ windowSample set src at pitch mx my r c)
@@ -99,6 +116,10 @@ put-as out stride x y n e h = e ∙ ap (putAt out stride x y n) h
 pub block-as : (n : ℕ) {set set′ : FilterSet} (l : List ℕ) {mx mx′ my my′ : ℕ} → set ≡ set′ → mx ≡ mx′ → my ≡ my′
     → haloBlock n set′ l mx′ my′ ≡ haloBlock n set l mx my
 block-as n l es ex ey = sym (λ i. haloBlock n (es i) l (ex i) (ey i))
+
+pub clips-as : (n : ℕ) {set set′ : FilterSet} (l : List ℕ) {mx mx′ my my′ : ℕ} → set ≡ set′ → mx ≡ mx′ → my ≡ my′
+    → haloClips n set′ l mx′ my′ ≡ haloClips n set l mx my
+clips-as n l es ex ey = sym (λ i. haloClips n (es i) l (ex i) (ey i))
 
 -- ---- a block put over all of a list
 pub length-halo-block : (n : ℕ) (set : FilterSet) (l : List ℕ) (mx my : ℕ) → length (haloBlock n set l mx my) ≡ n * n

@@ -1,24 +1,14 @@
 -- `chroma::pair_into` copies whole pixels, or what was filtered side by side, each into its place. Assumes nothing.
 use borrow.Author.Needs.{needs}
-use mathlib.Core.Path.{sym, ap, _∙_}
-use mathlib.Core.List.{List}
+use mathlib.Core.Path.{sym, ap, ap₂, _∙_}
+use Prim.Native.Nat.{_+_}
 use native.Mathlib.Omega.{arith}
 use lib.ListN.{length}
-use Rattle.rfc6386.specs.Fetched.{Coordinate, blockOf}
-use Rattle.rfc6386.specs.Laws.Fetched.{length-square}
 use Rattle.rfc6386.specs.Laws.Halos.{whole-block}
 use Rattle.steps.specs.Laws.Windows.{put-as, put-left, put-right, length-beside}
-use Rattle.blocks.specs.Places.{planeAt}
-use Rattle.blocks.proofs.Windows.{pixels-size, fetched-pixels, fetched-both}
+use Rattle.blocks.proofs.Windows.{pixels-size, takes-pixels, few-fetched}
 use Rattle.blocks.proofs.chroma.pair_into.Statement.{statement}
 use Rattle.blocks.proofs.chroma.pair_into.Tie as tie
-
--- what each block fetches
-abbrev u-list : tie.Start → List Coordinate
-u-list c = let a = c .args in blockOf 4 (planeAt (a .u .now) (a .u-at)) (a .u-at .x) (a .u-at .y) (a .mv)
-
-abbrev v-list : tie.Start → List Coordinate
-v-list c = let a = c .args in blockOf 4 (planeAt (a .v .now) (a .v-at)) (a .v-at .x) (a .v-at .y) (a .mv)
 
 copy-rect-requires : tie.Need-copy-rect-requires
 copy-rect-requires c κs = let a = c .before .before .before .before .before .before .before .before .before .before .before .before .args in (c .before .before .before .before .before .before .before .before .before .before .before .before .pre .1 .1 .1 .0, λ r h. omega (arith, pixels-size 4 _ (a .u-at .x) (a .u-at .y) (a .mv) (c .before .before .before .before .pixels-of-4 .ensures .0)))
@@ -27,7 +17,7 @@ copy-rect-requires-2 : tie.Need-copy-rect-requires-2
 copy-rect-requires-2 c κs = let a = c .before .before .before .before .before .before .before .before .before .before .before .before .before .before .before .before .before .args in (c .before .before .before .before .before .before .before .before .before .before .before .before .before .before .before .before .before .pre .1 .1 .1 .1, λ r h. omega (arith, pixels-size 4 _ (a .v-at .x) (a .v-at .y) (a .mv) (c .before .before .before .before .before .before .before .pixels-of-42 .ensures .0)))
 
 add-result : tie.Need-add-result
-add-result c = omega (arith, c .before .before .before .before .before .before .before .before .before .before .before .before .pixels-of-4 .ensures .1 ∙ length-square 4 _ _ _ _, c .before .before .before .before .before .before .before .before .before .before .pixels-of-42 .ensures .1 ∙ length-square 4 _ _ _ _)
+add-result c = omega (arith, few-fetched 4 _ _ _ _ (omega arith) (c .before .before .before .before .before .before .before .before .before .before .before .before .pixels-of-4 .ensures .1), few-fetched 4 _ _ _ _ (omega arith) (c .before .before .before .before .before .before .before .before .before .before .pixels-of-42 .ensures .1))
 
 returns : tie.Need-returns
 returns c =
@@ -35,7 +25,7 @@ returns c =
       put-as _ _ _ _ 4 (c .before .before .before .before .before .before .before .copy-rect .ensures) (whole-block 4 _ _ _ _ _ (c .before .before .before .before .before .before .before .before .before .before .before .before .pixels-of-4 .ensures .0) whole),
       (
         put-as _ _ _ _ 4 (c .before .before .copy-rect2 .ensures) (whole-block 4 _ _ _ _ _ (c .before .before .before .before .before .before .before .before .before .before .pixels-of-42 .ensures .0) whole),
-        fetched-both (u-list ((c .before .before .before .before .before .before .before .before .before .before .before .before .before .before .before .before .before .before .before .before))) (v-list ((c .before .before .before .before .before .before .before .before .before .before .before .before .before .before .before .before .before .before .before .before))) (fetched-pixels 4 _ _ _ _ whole (c .before .before .before .before .before .before .before .before .before .before .before .before .pixels-of-4 .ensures .1)) (fetched-pixels 4 _ _ _ _ whole (c .before .before .before .before .before .before .before .before .before .before .pixels-of-42 .ensures .1)),
+        ap₂ _+_ (takes-pixels 4 _ _ _ _ _ whole (c .before .before .before .before .before .before .before .before .before .before .before .before .pixels-of-4 .ensures .1)) (takes-pixels 4 _ _ _ _ _ whole (c .before .before .before .before .before .before .before .before .before .before .pixels-of-42 .ensures .1)),
       ),
     )
 

@@ -9,12 +9,12 @@ use Rattle.blocks.proofs.fetch.fetch_block_halo.Tie as tie
 returns : tie.Need-returns
 unfolding halo9
 returns c =
-    answer-refused {A = Halo9} (λ n l k. record { number = n; samples = l; fetched = k }) 81 (c .before .plane-refusal .ensures) _ _ (c .if1 .taken)
+    answer-refused {A = Halo9} (λ n l k. record { number = n; samples = l; fetched = k }) 81 (c .before .plane-refusal .ensures) _ _ 0 (c .if1 .taken)
 
 returns-2 : tie.Need-returns-2
 unfolding halo9
 returns-2 c =
-    answer-done {A = Halo9} (λ n l k. record { number = n; samples = l; fetched = k }) 81 (c .before .before .before .plane-refusal .ensures) _ _ (c .before .before .if1 .left)
+    answer-done {A = Halo9} (λ n l k. record { number = n; samples = l; fetched = k }) 81 (c .before .before .before .plane-refusal .ensures) _ _ 0 (c .before .before .if1 .left)
     (c .halo-of-4 .ensures .0) (c .halo-of-4 .ensures .1)
 
 pub fetch-block-halo-spec : {M : Type 1} → statement M

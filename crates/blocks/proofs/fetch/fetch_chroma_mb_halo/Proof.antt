@@ -9,12 +9,12 @@ use Rattle.blocks.proofs.fetch.fetch_chroma_mb_halo.Tie as tie
 returns : tie.Need-returns
 unfolding halo13
 returns c =
-    answer-refused {A = Halo13} (λ n l k. record { number = n; samples = l; fetched = k }) 169 (c .before .plane-refusal .ensures) _ _ (c .if1 .taken)
+    answer-refused {A = Halo13} (λ n l k. record { number = n; samples = l; fetched = k }) 169 (c .before .plane-refusal .ensures) _ _ 0 (c .if1 .taken)
 
 returns-2 : tie.Need-returns-2
 unfolding halo13
 returns-2 c =
-    answer-done {A = Halo13} (λ n l k. record { number = n; samples = l; fetched = k }) 169 (c .before .before .before .plane-refusal .ensures) _ _ (c .before .before .if1 .left)
+    answer-done {A = Halo13} (λ n l k. record { number = n; samples = l; fetched = k }) 169 (c .before .before .before .plane-refusal .ensures) _ _ 0 (c .before .before .if1 .left)
     (c .halo-of-8 .ensures .0) (c .halo-of-8 .ensures .1)
 
 pub fetch-chroma-mb-halo-spec : {M : Type 1} → statement M

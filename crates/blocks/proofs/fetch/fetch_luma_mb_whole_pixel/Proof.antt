@@ -9,12 +9,12 @@ use Rattle.blocks.proofs.fetch.fetch_luma_mb_whole_pixel.Tie as tie
 returns : tie.Need-returns
 unfolding pixels16
 returns c =
-    answer-refused {A = Pixels16} (λ n l k. record { number = n; samples = l; fetched = k }) 256 (c .before .plane-refusal .ensures) _ _ (c .if1 .taken)
+    answer-refused {A = Pixels16} (λ n l k. record { number = n; samples = l; fetched = k }) 256 (c .before .plane-refusal .ensures) _ _ 0 (c .if1 .taken)
 
 returns-2 : tie.Need-returns-2
 unfolding pixels16
 returns-2 c =
-    answer-done {A = Pixels16} (λ n l k. record { number = n; samples = l; fetched = k }) 256 (c .before .before .before .plane-refusal .ensures) _ _ (c .before .before .if1 .left)
+    answer-done {A = Pixels16} (λ n l k. record { number = n; samples = l; fetched = k }) 256 (c .before .before .before .plane-refusal .ensures) _ _ 0 (c .before .before .if1 .left)
     (c .pixels-of-16 .ensures .0) (c .pixels-of-16 .ensures .1)
 
 pub fetch-luma-mb-whole-pixel-spec : {M : Type 1} → statement M

@@ -19,7 +19,7 @@ use Rattle.steps.specs.Laws.Parts.{side-least, side-most}
 use Rattle.blocks.specs.Places.{planeAt, HaloAt, haloStart, clampedRect}
 use Rattle.blocks.proofs.Squares.{corner-is}
 use Rattle.blocks.proofs.Fetches.{under-x, under-y}
-use Rattle.blocks.proofs.Windows.{way-mx, way-my, way-block, near-held, near-window, fetched-pixels, fetched-halo}
+use Rattle.blocks.proofs.Windows.{way-mx, way-my, way-block, near-held, near-window, takes-pixels, takes-halo, few-fetched}
 use Rattle.blocks.proofs.sided.sided_into.Statement.{statement}
 use Rattle.blocks.proofs.sided.sided_into.Tie as tie
 
@@ -43,7 +43,7 @@ few c = let k : c .args .n + 5 ≤ 21 = omega (arith, side-most (c .pre .1 .0)) 
 
 fetch-pixels-requires : tie.Need-fetch-pixels-requires
 fetch-pixels-requires c κs =
-    let s = (c .before .before .before .before .before) in
+    let s = ((c .before .before .before .before .before)) in
     let k = side-least (s .pre .1 .0) in
     let m = side-most (s .pre .1 .0) in
     (s .pre .0, ((omega arith, omega arith, omega arith), ((omega arith, omega arith), s .pre .1 .1)))
@@ -52,55 +52,68 @@ returns : tie.Need-returns
 returns c =
     let whole = sym (c .before .before .before .before .before .whole-pixel-fraction-is-zero .ensures) ∙ c .before .before .before .before .if1 .taken in
     let a = c .before .before .before .before .before .before .before .before .args in
-    (put-as _ _ _ _ (a .n) (c .before .before .fetch-pixels .ensures .0) (whole-block (a .n) _ _ _ _ _ refl whole), fetched-pixels (a .n) _ _ _ _ whole (c .before .before .fetch-pixels .ensures .1))
+    (put-as _ _ _ _ (a .n) (c .before .before .fetch-pixels .ensures .0) (whole-block (a .n) _ _ _ _ _ refl whole), takes-pixels (a .n) _ _ _ _ _ whole (c .before .before .fetch-pixels .ensures .1))
 
 find-requires : tie.Need-find-requires
-find-requires c κs = let A = accepts ((c .before .before .before .before .before)) in ((under-x A, under-y A), ((A .width-most, A .height-most), omega (arith, side-most (c .before .before .before .before .before .pre .1 .0))))
+find-requires c κs = let A = accepts (((c .before .before .before .before .before))) in ((under-x A, under-y A), ((A .width-most, A .height-most), omega (arith, side-most (c .before .before .before .before .before .pre .1 .0))))
 
-mul-t19 : tie.Need-mul-t19
-mul-t19 c = omega (arith, near-held (c .before .before .before .before .before .before .before .before .before .args .n) (accepts ((c .before .before .before .before .before .before .before .before .before))) (inside ((c .before .before))) 0 (omega arith))
+mul-t21 : tie.Need-mul-t21
+mul-t21 c = omega (arith, near-held (c .before .before .before .before .before .before .before .before .before .args .n) (accepts (((c .before .before .before .before .before .before .before .before .before)))) (inside (((c .before .before)))) 0 (omega arith))
 
-add-t20 : tie.Need-add-t20
-add-t20 c = omega (arith, near-held (c .before .before .before .before .before .before .before .before .before .before .args .n) (accepts ((c .before .before .before .before .before .before .before .before .before .before))) (inside ((c .before .before .before))) 0 (omega arith))
+add-t22 : tie.Need-add-t22
+add-t22 c = omega (arith, near-held (c .before .before .before .before .before .before .before .before .before .before .args .n) (accepts (((c .before .before .before .before .before .before .before .before .before .before)))) (inside (((c .before .before .before)))) 0 (omega arith))
 
 filter-sided-requires : tie.Need-filter-sided-requires
 filter-sided-requires c κs =
-    let s = ((c .before .before .before .before .before .before .before .before .before .before .before)) in
+    let s = (((c .before .before .before .before .before .before .before .before .before .before .before))) in
     let w = c .before .before .before .before .before .before .way-of .ensures in
-    (s .pre .1 .0, (near-held (s .args .n) (accepts s) (inside ((c .before .before .before .before))), (way-mx (s .args .mv) _ w, (way-my (s .args .mv) _ w, s .pre .1 .1))))
+    (s .pre .1 .0, (near-held (s .args .n) (accepts s) (inside (((c .before .before .before .before)))), (way-mx (s .args .mv) _ w, (way-my (s .args .mv) _ w, s .pre .1 .1))))
+
+took-requires : tie.Need-took-requires
+took-requires c κs = omega (arith, few-fetched (c .before .before .before .before .before .before .before .before .before .before .before .before .before .before .args .n + 5) _ _ _ _ (omega (arith, side-most (c .before .before .before .before .before .before .before .before .before .before .before .before .before .before .pre .1 .0))) (c .before .before .before .before .before .before .before .before .find .ensures .1 (c .before .before .before .before .before .before .before .if2 .taken)))
 
 returns-2 : tie.Need-returns-2
 returns-2 c =
-    let s = ((c .before .before .before .before .before .before .before .before .before .before .before .before .before .before)) in
+    let s = (((c .before .before .before .before .before .before .before .before .before .before .before .before .before .before .before))) in
     let a = s .args in
-    let fraction = sym (c .before .before .before .before .before .before .before .before .before .before .before .whole-pixel-fraction-is-zero .ensures) ∙ c .before .before .before .before .before .before .before .before .before .before .if1 .left in (
-      put-as _ _ _ _ (a .n) (c .before .before .filter-sided .ensures)
-          (way-block (a .n) (a .set) _ (a .at .x) (a .at .y) (a .mv) (bytes ((c .before .before .before .before .before .before .before .before .before .before .before .before .before))) (c .before .before .before .before .before .before .before .before .before .way-of .ensures) (near-window (a .n) (accepts s) (inside ((c .before .before .before .before .before .before .before)))) refl),
-      fetched-halo (a .n) _ _ _ _ fraction (c .before .before .before .before .before .before .before .before .find .ensures .1 (c .before .before .before .before .before .before .before .if2 .taken)),
+    let window = near-window (a .n) (accepts s) (inside (((c .before .before .before .before .before .before .before .before)))) in
+    let fraction = sym (c .before .before .before .before .before .before .before .before .before .before .before .before .whole-pixel-fraction-is-zero .ensures) ∙ c .before .before .before .before .before .before .before .before .before .before .before .if1 .left in (
+      put-as _ _ _ _ (a .n) (c .before .before .before .filter-sided .ensures .0)
+          (way-block (a .n) (a .set) _ (a .at .x) (a .at .y) (a .mv) (bytes (((c .before .before .before .before .before .before .before .before .before .before .before .before .before .before)))) (c .before .before .before .before .before .before .before .before .before .before .way-of .ensures) window refl),
+      c .took .ensures
+          ∙ takes-halo (a .n) (a .set) _ (a .at .x) (a .at .y) (a .mv) fraction (c .before .before .before .before .before .before .before .before .before .before .way-of .ensures) window
+          (c .before .before .before .before .before .before .before .before .before .find .ensures .1 (c .before .before .before .before .before .before .before .before .if2 .taken)) (c .before .before .before .filter-sided .ensures .1),
     )
 
 clamped-halo-requires : tie.Need-clamped-halo-requires
-clamped-halo-requires c κs = (c .before .before .before .before .before .before .before .before .pre .0, (side-most (c .before .before .before .before .before .before .before .before .pre .1 .0), few ((c .before .before .before .before .before .before .before .before))))
+clamped-halo-requires c κs = (c .before .before .before .before .before .before .before .before .pre .0, (side-most (c .before .before .before .before .before .before .before .before .pre .1 .0), few (((c .before .before .before .before .before .before .before .before)))))
 
-add-t17 : tie.Need-add-t17
-add-t17 c = omega (arith, side-most (c .before .before .before .before .before .before .before .before .before .before .pre .1 .0))
+add-t19 : tie.Need-add-t19
+add-t19 c = omega (arith, side-most (c .before .before .before .before .before .before .before .before .before .before .pre .1 .0))
 
 filter-sided-requires-2 : tie.Need-filter-sided-requires-2
 filter-sided-requires-2 c κs =
-    let s = ((c .before .before .before .before .before .before .before .before .before .before .before .before)) in
+    let s = (((c .before .before .before .before .before .before .before .before .before .before .before .before))) in
     let m = s .args .n + 5 in
     let w = c .before .before .before .before .before .before .before .way-of .ensures in
     (s .pre .1 .0, (λ r h. omega (arith, row-fits r m m h, few s, c .before .before .before .clamped-halo .kept .1 .1 .1 .1 .0), (way-mx (s .args .mv) _ w, (way-my (s .args .mv) _ w, s .pre .1 .1))))
 
+took-requires-2 : tie.Need-took-requires-2
+took-requires-2 c κs = omega (arith, few-fetched (c .before .before .before .before .before .before .before .before .before .before .before .before .before .before .before .args .n + 5) _ _ _ _ (omega (arith, side-most (c .before .before .before .before .before .before .before .before .before .before .before .before .before .before .before .pre .1 .0))) (c .before .before .before .before .before .before .clamped-halo .ensures .1))
+
 returns-3 : tie.Need-returns-3
 returns-3 c =
-    let s = ((c .before .before .before .before .before .before .before .before .before .before .before .before .before .before .before)) in
+    let s = (((c .before .before .before .before .before .before .before .before .before .before .before .before .before .before .before .before))) in
     let a = s .args in
-    let fraction = sym (c .before .before .before .before .before .before .before .before .before .before .before .before .whole-pixel-fraction-is-zero .ensures) ∙ c .before .before .before .before .before .before .before .before .before .before .before .if1 .left in (
-      put-as _ _ _ _ (a .n) (c .before .before .filter-sided2 .ensures)
-          (way-block (a .n) (a .set) _ (a .at .x) (a .at .y) (a .mv) (bytes ((c .before .before .before .before .before .before .before .before .before .before .before .before .before .before))) (c .before .before .before .before .before .before .before .before .before .before .way-of .ensures)
-          (clamped-window (a .n + 5) (planeAt (a .plane .now) (a .at)) (haloStart (a .at .x) (a .mv .col)) (haloStart (a .at .y) (a .mv .row)) (replicate 441 0) (few s) (c .before .before .before .before .before .before .clamped-halo .ensures .0)) refl),
-      fetched-halo (a .n) _ _ _ _ fraction (c .before .before .before .before .before .before .clamped-halo .ensures .1),
+    let window =
+    clamped-window (a .n + 5) (planeAt (a .plane .now) (a .at)) (haloStart (a .at .x) (a .mv .col)) (haloStart (a .at .y) (a .mv .row)) (replicate 441 0) (few s)
+    (c .before .before .before .before .before .before .before .clamped-halo .ensures .0) in
+    let fraction = sym (c .before .before .before .before .before .before .before .before .before .before .before .before .before .whole-pixel-fraction-is-zero .ensures) ∙ c .before .before .before .before .before .before .before .before .before .before .before .before .if1 .left in (
+      put-as _ _ _ _ (a .n) (c .before .before .before .filter-sided2 .ensures .0)
+          (way-block (a .n) (a .set) _ (a .at .x) (a .at .y) (a .mv) (bytes (((c .before .before .before .before .before .before .before .before .before .before .before .before .before .before .before)))) (c .before .before .before .before .before .before .before .before .before .before .before .way-of .ensures) window refl),
+      c .took2 .ensures
+          ∙ takes-halo (a .n) (a .set) _ (a .at .x) (a .at .y) (a .mv) fraction (c .before .before .before .before .before .before .before .before .before .before .before .way-of .ensures) window
+          (c .before .before .before .before .before .before .before .clamped-halo .ensures .1) (c .before .before .before .filter-sided2 .ensures .1),
     )
 
 pub sided-into-spec : {M : Type 1} → statement M
@@ -114,15 +127,17 @@ sided-into-spec =
     (λ c κs. search needs)
     (λ c. omega (arith, side-most (c .before .before .before .before .before .pre .1 .0)))
     find-requires
-    mul-t19
-    add-t20
+    mul-t21
+    add-t22
     filter-sided-requires
+    took-requires
     (λ c. search needs)
     returns-2
     (λ c. search needs)
     clamped-halo-requires
-    add-t17
+    add-t19
     (λ c. search needs)
     filter-sided-requires-2
+    took-requires-2
     (λ c. search needs)
     returns-3)

@@ -6,11 +6,16 @@ use native.Mathlib.Omega.{arith}
 use Prim.Native.Nat.{ℕ}
 use Rattle.rfc6386.specs.Picture.{haloBlock}
 use Rattle.steps.specs.Laws.Windows.{window-whole, block-as, put-whole, length-halo-block}
+use Rattle.steps.specs.Laws.Tallies.{whole-tally, own-tally}
 use Rattle.filters.proofs.halos.filter_4.Statement.{statement}
 use Rattle.filters.proofs.halos.filter_4.Tie as tie
 
 returns : tie.Need-returns
-returns c = let a = c .before .before .before .before .before .before .before .before .args in c .before .middle .ensures (a .way .set) ∙ block-as 4 (a .halo .now) refl (c .before .before .before .before .before .before .if1 .taken) (c .before .before .before .before .if2 .taken)
+returns c =
+    let a = c .before .before .before .before .before .before .before .before .args in
+    let ex = c .before .before .before .before .before .before .if1 .taken in
+    let ey = c .before .before .before .before .if2 .taken in
+    (c .before .middle .ensures (a .way .set) ∙ block-as 4 (a .halo .now) refl ex ey, whole-tally 4 (a .way .set) (a .halo .now) ex ey)
 
 filter-tile-requires : tie.Need-filter-tile-requires
 filter-tile-requires c κs = (λ r h. omega (arith, c .before .filter-tile-arg .given .0), (c .before .before .before .before .pre .0, (c .before .before .before .before .pre .1, record { some = omega arith; across = omega arith; down = λ r h. omega arith })))
@@ -18,9 +23,13 @@ filter-tile-requires c κs = (λ r h. omega (arith, c .before .filter-tile-arg .
 returns-2 : tie.Need-returns-2
 returns-2 c =
     let a = c .before .before .before .before .before .before .args in
-    c .before .filter-tile .ensures
-    ∙ put-whole 4 _ _ refl (length-halo-block 4 _ _ _ _)
-    ∙ ap (λ (l : List ℕ). haloBlock 4 (a .way .set) l (a .way .mx) (a .way .my)) (window-whole 9 (a .halo .now) (c .before .before .before .filter-tile-arg .given .0))
+    let e = c .before .filter-tile .ensures in
+    let size = c .before .before .before .filter-tile-arg .given .0 in (
+      e .0
+          ∙ put-whole 4 _ _ refl (length-halo-block 4 _ _ _ _)
+          ∙ ap (λ (l : List ℕ). haloBlock 4 (a .way .set) l (a .way .mx) (a .way .my)) (window-whole 9 (a .halo .now) size),
+      e .1 ∙ own-tally 4 (a .way .set) (a .halo .now) (a .way .mx) (a .way .my) size,
+    )
 
 pub filter-4-spec : {M : Type 1} → statement M
 filter-4-spec =

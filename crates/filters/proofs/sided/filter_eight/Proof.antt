@@ -5,7 +5,7 @@ use mathlib.Core.List.{List}
 use Prim.Native.Nat.{ℕ, _+_, _*_, _<_, _≤_}
 use native.Mathlib.Nat.{mul-le-mul-left}
 use native.Mathlib.Omega.{arith}
-use lib.ListN.{length, getD}
+use lib.ListN.{getD}
 use Rattle.rfc6386.specs.Raster.{written}
 use Rattle.rfc6386.specs.Picture.{haloBlock}
 use Rattle.rfc6386.specs.Laws.Raster.{getD-raster, written-ext}
@@ -15,6 +15,7 @@ use Rattle.steps.specs.Window.{windowList, windowSample, putAt, Strips}
 use Rattle.steps.specs.Laws.Windows.{window-sample, held-down}
 use Rattle.steps.specs.Laws.Parts.{written-rows}
 use Rattle.steps.specs.Laws.Samples.{lower-sample}
+use Rattle.steps.specs.Laws.Tallies.{window-tally, lower-tally}
 use Rattle.filters.proofs.sided.filter_eight.Statement.{statement}
 use Rattle.filters.proofs.sided.filter_eight.Tie as tie
 
@@ -50,29 +51,35 @@ lower-room {stride = stride} {y = y} R =
     }
 
 filter-strips-requires : tie.Need-filter-strips-requires
-filter-strips-requires c κs = (omega arith, (λ r h. c .before .before .before .before .pre .0 r (omega arith), (held-down _ _ 13 13 (c .before .before .before .before .pre .0) 4 9 (omega arith), (c .before .before .before .before .pre .1 .0, c .before .before .before .before .pre .1 .1 .0))))
+filter-strips-requires c κs = (omega arith, (λ r h. c .before .before .before .before .before .pre .0 r (omega arith), (held-down _ _ 13 13 (c .before .before .before .before .before .pre .0) 4 9 (omega arith), (c .before .before .before .before .before .pre .1 .0, c .before .before .before .before .before .pre .1 .1 .0))))
 
-add-t9 : tie.Need-add-t9
-add-t9 c =
-    let R = c .before .before .before .before .before .before .pre .1 .1 .1 in
-    let a = c .before .before .before .before .before .before .args in
+add-t10 : tie.Need-add-t10
+add-t10 c =
+    let R = c .before .before .before .before .before .before .before .pre .1 .1 .1 in
+    let a = c .before .before .before .before .before .before .before .args in
     let wide : 1 ≤ a .spot .stride = omega (arith, R .across) in
     omega (arith, R .down 4 (omega arith), mul-le-mul-left (a .spot .y + 4) wide)
 
 copy-rect-requires : tie.Need-copy-rect-requires
 copy-rect-requires c κs =
-    let R = c .before .before .before .before .before .before .before .before .pre .1 .1 .1 in
-    (record { some = omega arith; across = R .across; down = λ r h. R .down r (omega arith) }, λ r h. omega (arith, c .before .before .before .filter-strips .ensures .size))
+    let R = c .before .before .before .before .before .before .before .before .before .pre .1 .1 .1 in
+    (record { some = omega arith; across = R .across; down = λ r h. R .down r (omega arith) }, λ r h. omega (arith, c .before .before .before .filter-strips .ensures .0 .size))
 
 copy-rect-requires-2 : tie.Need-copy-rect-requires-2
 copy-rect-requires-2 c κs =
-    let R = lower-room (c .before .before .before .before .before .before .before .before .before .before .before .before .before .pre .1 .1 .1) in
-    (record { some = R .some; across = R .across; down = λ r h. omega (arith, R .down r h, c .before .before .before .before .copy-rect .kept .0) }, λ r h. omega (arith, c .before .before .before .before .before .before .before .before .filter-strips .ensures .size))
+    let R = lower-room (c .before .before .before .before .before .before .before .before .before .before .before .before .before .before .pre .1 .1 .1) in
+    (record { some = R .some; across = R .across; down = λ r h. omega (arith, R .down r h, c .before .before .before .before .copy-rect .kept .0) }, λ r h. omega (arith, c .before .before .before .before .before .before .before .before .filter-strips .ensures .0 .size))
 
 returns : tie.Need-returns
 returns c =
-    let a = c .before .before .before .before .before .before .before .before .before .before .before .before .before .before .before .before .args in
-    below (a .way .set) _ _ _ (a .way .mx) (a .way .my) _ _ _ _ (c .before .before .before .before .before .before .before .before .before .before .before .filter-strips .ensures) (c .before .before .before .before .before .before .before .copy-rect .ensures) (c .before .before .copy-rect2 .ensures)
+    let a = c .before .before .before .before .before .before .before .before .before .before .before .before .before .before .before .before .before .args in
+    let w = a .way in
+    let e = c .before .before .before .before .before .before .before .before .before .before .before .filter-strips .ensures in (
+      below (w .set) _ _ _ (w .mx) (w .my) _ _ _ _ (e .0) (c .before .before .before .before .before .before .before .copy-rect .ensures) (c .before .before .copy-rect2 .ensures),
+      e .1
+          ∙ lower-tally 4 4 (w .set) (a .src .now) (a .window .at) (a .window .pitch) (w .mx) (w .my)
+          ∙ window-tally 8 (w .set) (a .src .now) (a .window .at) (a .window .pitch) (w .mx) (w .my),
+    )
 
 pub filter-eight-spec : {M : Type 1} → statement M
 filter-eight-spec =
@@ -81,7 +88,7 @@ filter-eight-spec =
     (λ c. omega (arith, c .before .before .before .pre .0 4 (omega arith)))
     (λ c. omega (arith, c .before .before .before .before .pre .0 4 (omega arith)))
     filter-strips-requires
-    add-t9
+    add-t10
     (λ c. search needs)
     copy-rect-requires
     (λ c. search needs)

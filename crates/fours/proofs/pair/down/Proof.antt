@@ -4,10 +4,12 @@ use mathlib.Core.Path.{refl}
 use Prim.Native.Nat.{_+_}
 use native.Mathlib.Omega.{arith}
 use lib.ListN.{replicate}
+use Rattle.rfc6386.specs.declared.FilterSet.the-variants.{Sixtap}
 use Rattle.steps.specs.Laws.Windows.{held-right}
 use Rattle.fours.proofs.Gathering.{Gathered, gathered-room}
 use Rattle.fours.proofs.Passes.{laid-size, line-of, copied, second-alone}
 use Rattle.fours.proofs.Pairs.{rightOf, left-fit, right-fit, Paired, paired-none, paired-half, paired-more, pair-of}
+use Rattle.fours.proofs.Clipped.{second-alone-clips, tallies-of}
 use Rattle.fours.proofs.pair.down.Statement.{statement}
 use Rattle.fours.proofs.pair.down.Tie as tie
 
@@ -24,7 +26,7 @@ both : (c : tie.After-copy-rect2) → let a = c .before .before .before .before 
     Paired 4 9 9 1 (a .u .now) (a .u-at .at + 2) (a .u-at .pitch) (a .v .now) (a .v-at .at + 2) (a .v-at .pitch) (c .copy-rect2 .last .0) 1
 both c =
     let p = c .before .before .before .before in
-    paired-more (none (p .before .before)) (omega arith) (omega arith) (omega arith) 0 _ refl (omega arith) (p .copy-rect .ensures)
+    paired-more (none (c .before .before .before .before .before .before)) (omega arith) (omega arith) (omega arith) 0 _ refl (omega arith) (p .copy-rect .ensures)
     _ (omega arith) (c .copy-rect2 .ensures)
 
 copy-rect-requires : tie.Need-copy-rect-requires
@@ -34,10 +36,13 @@ copy-rect-requires c κs =
       held-right (s .args .u-at .at) (s .args .u-at .pitch) 9 9 (s .pre .0) 2 4 (omega arith),
     )
 
+add-t15-2 : tie.Need-add-t15-2
+add-t15-2 c = omega (arith, c .before .before .before .before .before .before .before .before .before .pre .1 .0 0 (omega arith))
+
 copy-rect-requires-2 : tie.Need-copy-rect-requires-2
 copy-rect-requires-2 c κs =
     let p = c .before .before .before in
-    let s = p .before .before .before .before .before .before in (
+    let s = c .before .before .before .before .before .before .before .before .before in (
       gathered-room (half p) (right-fit (omega arith) (omega arith)) (omega arith),
       held-right (s .args .v-at .at) (s .args .v-at .pitch) 9 9 (s .pre .1 .0) 2 4 (omega arith),
     )
@@ -45,21 +50,29 @@ copy-rect-requires-2 c κs =
 line-requires : tie.Need-line-requires
 line-requires c κs =
     let p = c .before .before .before in
-    (p .before .before .before .before .before .before .before .taps-of .ensures .1, (omega (arith, both p .left .size), omega arith))
+    (c .before .before .before .before .before .before .before .before .before .before .taps-of .ensures .1, (omega (arith, both p .left .size), (omega arith, omega arith)))
 
 returns : tie.Need-returns
 returns c =
     let p = c .before .before .before .before .before in
-    let t = p .before .before .before .before .before .before .before in
-    let a = t .before .before .before .args in
-    let ey = t .taps-of .ensures .0 in
+    let a = c .before .before .before .before .before .before .before .before .before .before .before .before .before .before .before .args in
+    let ey = c .before .before .before .before .before .before .before .before .before .before .before .before .taps-of .ensures .0 in
     let e = c .before .line .ensures in
-    let o = line-of _ (p .copy-rect2 .last .0) 8 32 _ _ (omega arith) e in
-    pair-of (laid-size _ 32 _ e)
-    (second-alone (a .set) (a .u .now) (a .u-at .at) (a .u-at .pitch) 8 0 4 4 (omega arith) (λ i. t .before .before .shared-slice-known .given i .fits)
-    _ (a .my) ey (copied (both p .left) (left-fit (omega arith) (omega arith)) (omega arith)) o)
-    (second-alone (a .set) (a .v .now) (a .v-at .at) (a .v-at .pitch) 8 4 4 4 (omega arith) (λ i. t .before .shared-slice-known2 .given i .fits)
-    _ (a .my) ey (copied (both p .right) (right-fit (omega arith) (omega arith)) (omega arith)) o)
+    let m = p .copy-rect2 .last .0 in
+    let o = line-of _ m 8 32 _ _ (omega arith) (e .0) in
+    let left = copied (both p .left) (left-fit (omega arith) (omega arith)) (omega arith) in
+    let right = copied (both p .right) (right-fit (omega arith) (omega arith)) (omega arith) in (
+      pair-of (laid-size _ 32 _ (e .0))
+          (second-alone Sixtap (a .u .now) (a .u-at .at) (a .u-at .pitch) 8 0 4 4 (omega arith) (λ i. c .before .before .before .before .before .before .before .before .before .before .before .before .before .before .shared-slice-known .given i .fits)
+          _ (a .my) ey left o)
+          (second-alone Sixtap (a .v .now) (a .v-at .at) (a .v-at .pitch) 8 4 4 4 (omega arith) (λ i. c .before .before .before .before .before .before .before .before .before .before .before .before .before .shared-slice-known2 .given i .fits)
+          _ (a .my) ey right o),
+      tallies-of 4 Sixtap (a .u .now) (a .u-at .at) (a .u-at .pitch) (a .v .now) (a .v-at .at) (a .v-at .pitch) 0 (a .my) _ m 8 (e .1)
+          (second-alone-clips Sixtap (a .u .now) (a .u-at .at) (a .u-at .pitch) (λ i. c .before .before .before .before .before .before .before .before .before .before .before .before .before .before .shared-slice-known .given i .fits)
+          8 0 4 4 _ (a .my) ey m left)
+          (second-alone-clips Sixtap (a .v .now) (a .v-at .at) (a .v-at .pitch) (λ i. c .before .before .before .before .before .before .before .before .before .before .before .before .before .shared-slice-known2 .given i .fits)
+          8 4 4 4 _ (a .my) ey m right),
+    )
 
 pub down-spec : {M : Type 1} → statement M
 down-spec =
@@ -70,9 +83,10 @@ down-spec =
     (λ c. omega (arith, c .before .before .before .before .before .pre .0 0 (omega arith)))
     copy-rect-requires
     (λ c. search needs)
-    (λ c. omega (arith, c .before .before .before .before .before .before .before .before .before .pre .1 .0 0 (omega arith)))
+    add-t15-2
     copy-rect-requires-2
     (λ c. search needs)
     (λ c. search needs)
     line-requires
+    (λ c. search needs)
     returns)

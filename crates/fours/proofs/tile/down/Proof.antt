@@ -3,9 +3,11 @@ use borrow.Author.Needs.{needs}
 use mathlib.Core.Path.{refl}
 use Prim.Native.Nat.{_+_}
 use native.Mathlib.Omega.{arith}
+use Rattle.rfc6386.specs.declared.FilterSet.the-variants.{Sixtap}
 use Rattle.steps.specs.Laws.Windows.{held-right}
 use Rattle.fours.proofs.Gathering.{Copies, Fit, Gathered, gathered-none, gathered-next}
 use Rattle.fours.proofs.Passes.{laid-size, line-of, copied, second-alone, block-of}
+use Rattle.fours.proofs.Clipped.{second-alone-clips, tally-of}
 use Rattle.fours.proofs.tile.down.Statement.{statement}
 use Rattle.fours.proofs.tile.down.Tie as tie
 
@@ -20,9 +22,6 @@ one : (c : tie.After-copy-rect) → let a = c .before .before .before .before .b
     Gathered copies (a .src .now) (a .window .at + 2) (a .window .pitch) (c .copy-rect .last .0) 1
 one c = gathered-next (gathered-none refl) fit (omega arith) 0 _ refl (omega arith) (c .copy-rect .ensures)
 
-add-t12 : tie.Need-add-t12
-add-t12 c = omega (arith, c .before .before .before .before .pre .0 0 (omega arith))
-
 copy-rect-requires : tie.Need-copy-rect-requires
 copy-rect-requires c κs =
     let s = c .before .before .before .before in (
@@ -33,12 +32,17 @@ copy-rect-requires c κs =
 returns : tie.Need-returns
 returns c =
     let p = c .before .before .before .before .before in
-    let t = p .before .before .before in
-    let a = t .before .before .args in
+    let a = c .before .before .before .before .before .before .before .before .before .before .args in
     let e = c .before .line .ensures in
-    block-of (laid-size _ 16 _ e)
-    (second-alone (a .set) (a .src .now) (a .window .at) (a .window .pitch) 4 0 4 4 (omega arith) (λ i. t .before .shared-slice-known .given i .fits)
-    _ (a .my) (t .taps-of .ensures .0) (copied (one p) fit (omega arith)) (line-of _ (p .copy-rect .last .0) 4 16 _ _ (omega arith) e))
+    let ey = c .before .before .before .before .before .before .before .before .taps-of .ensures .0 in
+    let columns = copied (one p) fit (omega arith) in (
+      block-of (laid-size _ 16 _ (e .0))
+          (second-alone Sixtap (a .src .now) (a .window .at) (a .window .pitch) 4 0 4 4 (omega arith) (λ i. c .before .before .before .before .before .before .before .before .before .shared-slice-known .given i .fits)
+          _ (a .my) ey columns (line-of _ (p .copy-rect .last .0) 4 16 _ _ (omega arith) (e .0))),
+      tally-of 4 Sixtap (a .src .now) (a .window .at) (a .window .pitch) 0 (a .my) _ (p .copy-rect .last .0) 4 (e .1)
+          (second-alone-clips Sixtap (a .src .now) (a .window .at) (a .window .pitch) (λ i. c .before .before .before .before .before .before .before .before .before .shared-slice-known .given i .fits)
+          4 0 4 4 _ (a .my) ey (p .copy-rect .last .0) columns),
+    )
 
 pub down-spec : {M : Type 1} → statement M
 down-spec =
@@ -46,9 +50,10 @@ down-spec =
     (tie.spec
     (λ c κs. search needs)
     (λ c. search needs)
-    add-t12
+    (λ c. omega (arith, c .before .before .before .before .pre .0 0 (omega arith)))
     copy-rect-requires
     (λ c. search needs)
     (λ c. search needs)
     (λ c κs. search needs)
+    (λ c. search needs)
     returns)

@@ -1,57 +1,39 @@
--- `filter_tile` puts the block in place: a fraction that is left out is 0. Assumes nothing.
+-- `filter_tile` puts the block of its table in place and tells its tally. Assumes nothing.
 use borrow.Author.Needs.{needs}
-use mathlib.Core.Path.{refl, _∙_}
-use Rattle.steps.specs.Laws.Windows.{put-as, block-as}
+use mathlib.Core.Path.{refl, sym, ap, _∙_}
+use Rattle.steps.specs.Tally.{tallyOf}
+use Rattle.steps.specs.Laws.Windows.{put-as, block-as, clips-as}
+use Rattle.steps.specs.Laws.Tallies.{window-bilinear}
 use Rattle.fours.proofs.tile.filter_tile.Statement.{statement}
 use Rattle.fours.proofs.tile.filter_tile.Tie as tie
 
 returns : tie.Need-returns
 returns c =
-    let w = c .before .before in
-    let b = w .before .before .before in
-    put-as _ _ _ _ 4 (w .copy-rect .ensures) (b .down .ensures ∙ block-as 4 _ refl (b .before .if1 .taken) refl)
+    let e = c .before .before .six-tile .ensures in
+    let z = c .before .before .before .before .enum-told .given .1 in
+    (put-as _ _ _ _ 4 (e .0) (block-as 4 _ z refl refl), e .1 ∙ ap tallyOf (clips-as 4 _ z refl refl))
 
 returns-2 : tie.Need-returns-2
 returns-2 c =
-    let w = c .before .before in
-    let b = w .before .before .before in
-    put-as _ _ _ _ 4 (w .copy-rect2 .ensures) (b .across .ensures ∙ block-as 4 _ refl refl (b .before .if2 .taken))
-
-returns-3 : tie.Need-returns-3
-returns-3 c =
-    let w = c .before .before in
-    let b = w .before .before .before in
-    put-as _ _ _ _ 4 (w .copy-rect3 .ensures) (b .two .ensures ∙ block-as 4 _ (b .before .enum-told .given .1) refl refl)
-
-returns-4 : tie.Need-returns-4
-returns-4 c =
-    let w = c .before .before in
-    let b = w .before .before .before in
-    put-as _ _ _ _ 4 (w .copy-rect4 .ensures) (b .mixed .ensures ∙ block-as 4 _ (b .before .enum-told2 .given .1) refl refl)
+    let s = c .before .before .before .before .before .before .before .before .before .before in
+    let a = s .args in
+    let z = c .before .before .before .before .before .before .enum-told2 .given .1 in (
+      put-as _ _ _ _ 4 (c .before .before .copy-rect .ensures) (c .before .before .before .before .before .mixed .ensures ∙ block-as 4 _ z refl refl),
+      sym (window-bilinear 4 (a .src .now) (a .window .at) (a .window .pitch) (a .way .mx) (a .way .my) z
+          (λ i. c .before .before .before .before .before .before .before .before .before .shared-slice-known .given i .fits) (s .pre .1 .0) (s .pre .1 .1 .0)),
+    )
 
 pub filter-tile-spec : {M : Type 1} → statement M
 filter-tile-spec =
     tie.close
     (tie.spec
+    (λ c. search needs)
+    (λ c κs. search needs)
+    (λ c. search needs)
     (λ c κs. search needs)
     (λ c. search needs)
     (λ c κs. search needs)
     (λ c. search needs)
     returns
-    (λ c κs. search needs)
     (λ c. search needs)
-    (λ c κs. search needs)
-    (λ c. search needs)
-    returns-2
-    (λ c. search needs)
-    (λ c κs. search needs)
-    (λ c. search needs)
-    (λ c κs. search needs)
-    (λ c. search needs)
-    (λ c κs. search needs)
-    (λ c. search needs)
-    (λ c κs. search needs)
-    (λ c. search needs)
-    returns-3
-    (λ c. search needs)
-    returns-4)
+    returns-2)

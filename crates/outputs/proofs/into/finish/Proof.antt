@@ -21,16 +21,16 @@ returns c =
 
 write-samples-requires : tie.Need-write-samples-requires
 write-samples-requires c κs =
-    let a = c .before .before .before .before .before .before .before .args in
-    has-room (a .report .prediction) (a .codes) (a .out .now) (c .before .before .before .or-else2 .result) (cc) (omega arith)
+    let a = c .before .before .before .before .before .before .before .before .args in
+    has-room (a .report .prediction) (a .codes) (a .out .now) (c .before .before .before .before .or-else2 .result) (cc) (omega arith)
 
 same-length : tie.Need-same-length
 same-length c = search needs
 
 returns-2 : tie.Need-returns-2
 returns-2 c =
-    let a = c .before .before .before .before .before .before .before .before .before .before .args in
-    told-done (a .report) (a .codes) (a .out .now) (c .before .before .before .before .before .before .or-else2 .result) (cc) _ (omega arith)
+    let a = c .before .before .before .before .before .before .before .before .before .before .before .args in
+    told-done (a .report) (a .codes) (a .out .now) (c .before .before .before .before .before .before .before .or-else2 .result) (cc) _ (omega arith)
     (c .before .before .write-samples .ensures)
 
 pub finish-spec : {M : Type 1} → statement M

@@ -1,14 +1,16 @@
 -- `predict_inter_mb_whole_pixel` copies three squares, where no fraction is left.
 use borrow.Author.Needs.{needs}
-use mathlib.Core.Path.{_≡_, sym, ap₂, _∙_}
+use mathlib.Core.Path.{_≡_, refl, sym, ap₂, _∙_}
 use mathlib.Core.Bool.{cond, _&&_}
 use mathlib.Core.List.{List, _++_}
 use native.Mathlib.Omega.{arith}
 use Prim.Native.Nat.{ℕ, _*_}
+use lib.ListN.{length}
 use Rattle.rfc6386.specs.Vector.{fullPixel, lumaVector, chromaVector, isWhole}
 use Rattle.rfc6386.specs.Picture.{image, pixels}
 use Rattle.rfc6386.specs.Refusal.{orElse}
 use Rattle.blocks.specs.Places.{planeAt}
+use Rattle.rfc6386.specs.Clips.{noClips}
 use Rattle.rfc6386.specs.Fetched.{Coordinate, pixelsOf}
 use Rattle.rfc6386.specs.Report.{wholePixelOf, wholePixelReport}
 use Rattle.rfc6386.specs.Macroblock.{lent, planeY, planeU, planeV, refusal, fractionLeft, wholePixel, pixelSamples}
@@ -52,7 +54,7 @@ pixelList c = let a = c .args in wholePixelOf (fullPixel (a .full-pixel)) (lent 
 returns : tie.Need-returns
 unfolding wholePixelReport wholePixel
 returns c =
-    c .refused-report .ensures ∙ report-refused _ (pixelList ((c .before .before .before .before .before .before .before .before .before .before))) (numbered (((c .before .before)))) (c .before .if1 .taken)
+    c .refused-report .ensures ∙ report-refused _ (pixelList ((c .before .before .before .before .before .before .before .before .before .before))) noClips (numbered (((c .before .before)))) (c .before .if1 .taken)
 
 pixels-of-16-requires : tie.Need-pixels-of-16-requires
 pixels-of-16-requires c κs = luma-at _ _ _ _ _ _ (placed ((c .before .before .before .before))) (c .before .before .before .place-of .ensures)
@@ -75,7 +77,7 @@ unfolding wholePixelReport wholePixel pixelSamples wholePixelOf
 returns-2 c =
     let a = c .before .before .before .before .before .before .before .before .before .before .before .before .before .before .before .before .before .before .args in
     let chroma = c .before .before .before .before .before .before .before .before .before .before .before .before .before .chroma-vector .ensures in
-    report-done (pixelList ((c .before .before .before .before .before .before .before .before .before .before .before .before .before .before .before .before .before .before))) (numbered (((c .before .before .before .before .before .before .before .before .before .before)))) (c .before .before .before .before .before .before .before .before .before .if1 .left)
+    report-done (pixelList ((c .before .before .before .before .before .before .before .before .before .before .before .before .before .before .before .before .before .before))) noClips (numbered (((c .before .before .before .before .before .before .before .before .before .before)))) (c .before .before .before .before .before .before .before .before .before .if1 .left)
     (three
     (moved (λ p m. pixels 16 (image (planeAt (a .y .now) p)) (p .x) (p .y) m)
     (c .before .before .before .before .pixels-of-16 .ensures .0) (c .before .before .before .before .before .before .before .before .place-of .ensures) (c .before .before .before .before .before .before .before .before .before .before .before .before .before .before .luma-vector .ensures))
@@ -84,10 +86,11 @@ returns-2 c =
     (moved (λ p m. pixels 8 (image (planeAt (a .v .now) p)) (p .x) (p .y) m)
     (c .pixels-of-82 .ensures .0) (c .before .before .before .before .before .before .place-of3 .ensures) chroma))
     (joint (y-list ((c .before .before .before .before .before .before .before .before .before .before .before .before .before .before .before .before .before .before))) (u-list ((c .before .before .before .before .before .before .before .before .before .before .before .before .before .before .before .before .before .before)) ++ v-list ((c .before .before .before .before .before .before .before .before .before .before .before .before .before .before .before .before .before .before)))
-    (counted (λ p m. pixelsOf 16 (planeAt (a .y .now) p) (p .x) (p .y) m) (c .before .before .before .before .pixels-of-16 .ensures .1) (c .before .before .before .before .before .before .before .before .place-of .ensures) (c .before .before .before .before .before .before .before .before .before .before .before .before .before .before .luma-vector .ensures))
+    (counted (λ p m. length (pixelsOf 16 (planeAt (a .y .now) p) (p .x) (p .y) m)) (c .before .before .before .before .pixels-of-16 .ensures .1) (c .before .before .before .before .before .before .before .before .place-of .ensures) (c .before .before .before .before .before .before .before .before .before .before .before .before .before .before .luma-vector .ensures))
     (joint (u-list ((c .before .before .before .before .before .before .before .before .before .before .before .before .before .before .before .before .before .before))) (v-list ((c .before .before .before .before .before .before .before .before .before .before .before .before .before .before .before .before .before .before)))
-    (counted (λ p m. pixelsOf 8 (planeAt (a .u .now) p) (p .x) (p .y) m) (c .before .before .pixels-of-8 .ensures .1) (c .before .before .before .before .before .before .before .place-of2 .ensures) chroma)
-    (counted (λ p m. pixelsOf 8 (planeAt (a .v .now) p) (p .x) (p .y) m) (c .pixels-of-82 .ensures .1) (c .before .before .before .before .before .before .place-of3 .ensures) chroma)))
+    (counted (λ p m. length (pixelsOf 8 (planeAt (a .u .now) p) (p .x) (p .y) m)) (c .before .before .pixels-of-8 .ensures .1) (c .before .before .before .before .before .before .before .place-of2 .ensures) chroma)
+    (counted (λ p m. length (pixelsOf 8 (planeAt (a .v .now) p) (p .x) (p .y) m)) (c .pixels-of-82 .ensures .1) (c .before .before .before .before .before .before .place-of3 .ensures) chroma)))
+    refl
 
 pub predict-inter-mb-whole-pixel-spec : {M : Type 1} → statement M
 predict-inter-mb-whole-pixel-spec =

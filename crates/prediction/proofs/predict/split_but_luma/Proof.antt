@@ -1,26 +1,28 @@
--- `split_but_luma` has the chroma of split prediction, and the place of its luma. Assumes nothing.
+-- `split_but_luma` has the chroma of split prediction, what that takes, and the place of its luma. Assumes nothing.
 use borrow.Author.Needs.{needs}
 use mathlib.Core.Path.{_≡_, refl, sym, ap, ap₂, _∙_}
 use mathlib.Core.List.{List, _++_, map}
-use Prim.Native.Nat.{ℕ, _+_, _*_, _≤_}
+use Prim.Native.Nat.{ℕ, _+_, _*_, _/_, _≤_}
 use native.Mathlib.Omega.{arith}
-use lib.ListN.{length, length-append}
+use lib.ListN.{length}
 use Rattle.rfc6386.specs.Vector.{Lowering, each, lowered, sent, quarterAverages, quarterVector}
 use Rattle.rfc6386.specs.Picture.{Plane, image, blockBy}
 use Rattle.rfc6386.specs.Fetched.{tilesOf}
+use Rattle.rfc6386.specs.Clips.{bothClips, clipsBy}
 use Rattle.rfc6386.specs.Macroblock.{lent, planeU, planeV, quarter, split, splitSamples}
-use Rattle.rfc6386.specs.Report.{splitChromaOf}
-use Rattle.rfc6386.specs.Laws.Refusals.{Accepts, accepts}
-use Rattle.rfc6386.specs.Laws.Fetched.{report-done}
+use Rattle.rfc6386.specs.Report.{splitChromaOf, splitClips}
+use Rattle.rfc6386.specs.Laws.Refusals.{Accepts, accepts, done-is}
 use Rattle.rfc6386.specs.Laws.Merging.{blockBy-ext}
 use Rattle.rfc6386.specs.declared.Mv.{Mv}
 use Rattle.rfc6386.specs.declared.FilterSet.{FilterSet}
 use Rattle.blocks.specs.Places.{planeAt}
-use Rattle.prediction.specs.Luma.{lumaAt}
+use Rattle.blocks.specs.Taken.{taken}
+use Rattle.prediction.specs.Tiles.{tilesTake}
+use Rattle.prediction.specs.Luma.{lumaAt, lumaClips}
 use Rattle.blocks.specs.declared.chroma.Chroma.{Chroma}
 use Rattle.blocks.specs.declared.place.Place.{Place}
-use Rattle.prediction.proofs.Macroblock.{room, luma-starts, u-starts, v-starts, alike, three, quarter-of, tiles-few, joint, apart}
-use Rattle.prediction.proofs.Tiles.{tiles-same}
+use Rattle.prediction.proofs.Macroblock.{room, luma-starts, u-starts, v-starts, alike, three, quarter-of, joint-taken}
+use Rattle.prediction.proofs.Tiles.{takes-same, takes-few}
 use Rattle.prediction.proofs.predict.split_but_luma.Statement.{statement}
 use Rattle.prediction.proofs.predict.split_but_luma.Tie as tie
 
@@ -36,15 +38,12 @@ quarters set low bytes vs {l} {p} {p′} {ks} e k h =
 placed : (c : tie.Start) → let a = c .args in Accepts (lent (a .y .now) (a .u .now) (a .v .now) (a .sizes)) (a .mb-col) (a .mb-row)
 placed c = accepts _ _ _ (c .pre)
 
--- and what it fetches
-fetched : (low : Lowering) (bytes : List ℕ) (vs : List Mv) {p p′ : Place} {ks : List Mv} → p ≡ p′ → ks ≡ map (each (lowered (low .chroma))) (quarterAverages vs)
-    → length (tilesOf 2 (planeAt bytes p) (p .x) (p .y) (sent ks)) ≡ length (tilesOf 2 (planeAt bytes p′) (p′ .x) (p′ .y) (quarterVector low vs))
-fetched low bytes vs {p′ = p′} e k =
-    ap₂ (λ (q : Place) (vs : List Mv). length (tilesOf 2 (planeAt bytes q) (q .x) (q .y) (sent vs))) e k
-    ∙ tiles-same 2 (planeAt bytes p′) (p′ .x) (p′ .y) _ _ (λ q h. quarter-of low vs q h)
-
-both-few : (p q : Plane) (x y x′ y′ : ℕ) (f : ℕ → Mv) {k : ℕ} → k ≡ length (tilesOf 2 p x y f ++ tilesOf 2 q x′ y′ f) → k ≤ 648
-both-few p q x y x′ y′ f e = omega (arith, apart (tilesOf 2 p x y f) (tilesOf 2 q x′ y′ f) e, tiles-few 2 p x y f refl, tiles-few 2 q x′ y′ f refl)
+-- and what it takes
+took : (set : FilterSet) (low : Lowering) (bytes : List ℕ) (vs : List Mv) {p p′ : Place} {ks : List Mv} → p ≡ p′ → ks ≡ map (each (lowered (low .chroma))) (quarterAverages vs)
+    → tilesTake 2 set (planeAt bytes p) (p .x) (p .y) (sent ks) ≡ tilesTake 2 set (planeAt bytes p′) (p′ .x) (p′ .y) (quarterVector low vs)
+took set low bytes vs {p′ = p′} e k =
+    ap₂ (λ (q : Place) (vs : List Mv). tilesTake 2 set (planeAt bytes q) (q .x) (q .y) (sent vs)) e k
+    ∙ takes-same 2 set (planeAt bytes p′) (p′ .x) (p′ .y) _ _ (λ q h. quarter-of low vs q h)
 
 split-chroma-requires : tie.Need-split-chroma-requires
 split-chroma-requires c κs =
@@ -55,9 +54,9 @@ split-chroma-requires c κs =
     (u-starts _ _ _ _ _ _ A u, (v-starts _ _ _ _ _ _ A v, alike (a .sizes) (a .mb-col) (a .mb-row) 8 u v))
 
 returns : tie.Need-returns
-unfolding split splitSamples splitChromaOf
+unfolding split splitSamples splitChromaOf splitClips
 returns c =
-    let s = ((c .before .before .before .before .before .before .before .before .before)) in
+    let s = (c .before .before .before .before .before .before .before .before .before) in
     let a = s .args in
     let at = c .before .before .before .before .place-of .ensures in
     let q = c .before .before .before .before .before .quarter-vectors .ensures in
@@ -66,24 +65,31 @@ returns c =
     let up = c .before .before .before .place-of2 .result in
     let vp = c .before .before .place-of3 .result in
     let ks = c .before .before .before .before .before .quarter-vectors .result in
+    let ref = lent (a .y .now) (a .u .now) (a .v .now) (a .sizes) in
+    let col = a .mb-col in
+    let row = a .mb-row in
     record {
       starts = luma-starts _ _ _ _ _ _ (placed s) at;
       stands = at;
-      few = both-few (planeAt (a .u .now) up) (planeAt (a .v .now) vp) (up .x) (up .y) (vp .x) (vp .y) (sent ks) count;
-      completes = λ luma l zero e k.
+      few = takes-few (a .set) (planeAt (a .u .now) up) (planeAt (a .v .now) vp) (up .x) (up .y) (vp .x) (vp .y) (sent ks) count;
+      completes = λ luma zero e.
           let low : Lowering = record { luma = luma; chroma = a .lower-chroma } in
-          let ref = lent (a .y .now) (a .u .now) (a .v .now) (a .sizes) in
-          let col = a .mb-col in
-          let row = a .mb-row in
-          report-done (l ++ splitChromaOf low ref col row (a .split-luma-mvs)) (zero ∙ sym (s .pre)) zero
+          done-is (zero ∙ sym (s .pre)) zero
           (three
           (e ∙ ap (lumaAt (a .set) low (a .y .now) (a .split-luma-mvs)) at)
           (quarters (a .set) low (a .u .now) (a .split-luma-mvs) (c .before .before .before .place-of2 .ensures) q (ap (λ (b : Chroma). b .u) both))
-          (quarters (a .set) low (a .v .now) (a .split-luma-mvs) (c .before .before .place-of3 .ensures) q (ap (λ (b : Chroma). b .v) both)))
-          (joint l (splitChromaOf low ref col row (a .split-luma-mvs)) k
-          (apart (tilesOf 2 (planeAt (a .u .now) up) (up .x) (up .y) (sent ks)) (tilesOf 2 (planeAt (a .v .now) vp) (vp .x) (vp .y) (sent ks)) count
-          ∙ ap₂ _+_ (fetched low (a .u .now) (a .split-luma-mvs) (c .before .before .before .place-of2 .ensures) q) (fetched low (a .v .now) (a .split-luma-mvs) (c .before .before .place-of3 .ensures) q)
-          ∙ sym (length-append (tilesOf 2 (planeU ref) (col * 8) (row * 8) (quarterVector low (a .split-luma-mvs))) (tilesOf 2 (planeV ref) (col * 8) (row * 8) (quarterVector low (a .split-luma-mvs))))));
+          (quarters (a .set) low (a .v .now) (a .split-luma-mvs) (c .before .before .place-of3 .ensures) q (ap (λ (b : Chroma). b .v) both)));
+      sums = λ luma l e.
+          let low : Lowering = record { luma = luma; chroma = a .lower-chroma } in
+          let vectors = quarterVector low (a .split-luma-mvs) in
+          let ul = tilesOf 2 (planeU ref) (col * 8) (row * 8) vectors in
+          let vl = tilesOf 2 (planeV ref) (col * 8) (row * 8) vectors in
+          let uk = clipsBy 8 (a .set) (image (planeU ref)) (col * 8) (row * 8) (λ r c. vectors (quarter r c)) in
+          let vk = clipsBy 8 (a .set) (image (planeV ref)) (col * 8) (row * 8) (λ r c. vectors (quarter r c)) in
+          joint-taken l (ul ++ vl) (lumaClips (a .set) low ref col row (a .split-luma-mvs)) (bothClips uk vk) e
+          (count
+          ∙ ap₂ _+_ (took (a .set) low (a .u .now) (a .split-luma-mvs) (c .before .before .before .place-of2 .ensures) q) (took (a .set) low (a .v .now) (a .split-luma-mvs) (c .before .before .place-of3 .ensures) q)
+          ∙ joint-taken ul vl uk vk refl refl);
     }
 
 pub split-but-luma-spec : {M : Type 1} → statement M

@@ -3,47 +3,43 @@ use mathlib.Core.Path.{_≡_, refl, sym, ap, ap₂, _∙_, subst}
 use mathlib.Core.List.{List}
 use native.Mathlib.Omega.{arith}
 use Prim.Native.Nat.{ℕ, _+_, _-_, _*_, _/_, _%_}
-use lib.ListN.{length, length-append}
 use Rattle.rfc6386.specs.Vector.{sent}
 use Rattle.rfc6386.specs.Picture.{image, block}
-use Rattle.rfc6386.specs.Fetched.{Coordinate, blockOf, tilesOf}
 use Rattle.rfc6386.specs.declared.Mv.{Mv}
 use Rattle.blocks.specs.Places.{planeAt, Accepted}
+use Rattle.blocks.specs.Taken.{blockTakes}
 use Rattle.blocks.specs.declared.place.Place.{Place}
-use Rattle.prediction.proofs.Tiles.{two, Tiled, tiled-none, tiled-more, tiled-all, fetchedBy, fetched-none, fetched-more, tile-few, fetched-few, fetched-all}
+use Rattle.prediction.proofs.Tiles.{two, Tiled, tiled-none, tiled-more, tiled-all, tileTakes, takenBy, taken-none, taken-more, tile-few, taken-few, taken-all}
 use Rattle.blocks.specs.Laws.{alike-from}
 use Rattle.prediction.proofs.split.split_chroma.Statement.{statement}
 use Rattle.prediction.proofs.split.split_chroma.Tie as tie
 
 abbrev Inv-loop : tie.InvT-loop
-Inv-loop u u-at v v-at set fetched mvs u-out₀ v-out₀ total₀ b₀ u-out v-out total b =
+Inv-loop u u-at v v-at set all mvs u-out₀ v-out₀ total₀ b₀ u-out v-out total b =
     Tiled 2 two set (image (planeAt u u-at)) (u-at .x) (u-at .y) (sent mvs) u-out b
     × (Tiled 2 two set (image (planeAt v v-at)) (v-at .x) (v-at .y) (sent mvs) v-out b
-    × (total ≡ fetchedBy 2 (planeAt u u-at) (u-at .x) (u-at .y) (sent mvs) b + fetchedBy 2 (planeAt v v-at) (v-at .x) (v-at .y) (sent mvs) b))
+    × (total ≡ takenBy 2 set (planeAt u u-at) (u-at .x) (u-at .y) (sent mvs) b + takenBy 2 set (planeAt v v-at) (v-at .x) (v-at .y) (sent mvs) b))
 
 abbrev μ-loop : tie.MeasureT-loop
-μ-loop u u-at v v-at set fetched mvs u-out₀ v-out₀ total₀ b₀ u-out v-out total b = 4 - b
+μ-loop u u-at v v-at set all mvs u-out₀ v-out₀ total₀ b₀ u-out v-out total b = 4 - b
 
--- what this turn's blocks fetched
-abbrev part : (plane : List ℕ) (at : Place) (mvs : List Mv) (b : ℕ) → ℕ
-part plane at mvs b = length (blockOf 4 (planeAt plane at) (at .x + b % 2 * 4) (at .y + b / 2 * 4) (sent mvs b))
-
-fetched : (c : tie.After-pair-into Inv-loop μ-loop) → let a = c .before .before .before .before .before .before .before .before .before .before .args in let b = c .before .before .before .before .before .before .before .loop .b in
-    c .pair-into .result ≡ part (a .u .now) (a .u-at) (a .t5) b + part (a .v .now) (a .v-at) (a .t5) b
-fetched c =
+-- what this turn's blocks took
+took : (c : tie.After-pair-into Inv-loop μ-loop) → let a = c .before .before .before .before .before .before .before .before .before .before .args in let b = c .before .before .before .before .before .before .before .loop .b in
+    c .pair-into .result
+    ≡ tileTakes 2 (a .set) (planeAt (a .u .now) (a .u-at)) (a .u-at .x) (a .u-at .y) (sent (a .t5)) b
+    + tileTakes 2 (a .set) (planeAt (a .v .now) (a .v-at)) (a .v-at .x) (a .v-at .y) (sent (a .t5)) b
+took c =
     let a = c .before .before .before .before .before .before .before .before .before .before .args in
     let v = sent (a .t5) (c .before .before .before .before .before .before .before .loop .b) in
-    let l : Place → List ℕ → List Coordinate = (λ p bytes. blockOf 4 (planeAt bytes p) (p .x) (p .y) v) in
     c .pair-into .ensures .1 .1
-    ∙ length-append (l (c .before .before .before .before .before .from .result) (a .u .now)) (l (c .before .before .before .before .from2 .result) (a .v .now))
-    ∙ ap₂ (λ (p q : Place). length (blockOf 4 (planeAt (a .u .now) p) (p .x) (p .y) v) + length (blockOf 4 (planeAt (a .v .now) q) (q .x) (q .y) v))
+    ∙ ap₂ (λ (p q : Place). blockTakes 4 (a .set) (planeAt (a .u .now) p) (p .x) (p .y) v + blockTakes 4 (a .set) (planeAt (a .v .now) q) (q .x) (q .y) v)
     (c .before .before .before .before .before .from .ensures) (c .before .before .before .before .from2 .ensures)
 
 more : (k n a b p q a′ b′ : ℕ) → k ≡ a + b → n ≡ p + q → a + p ≡ a′ → b + q ≡ b′ → k + n ≡ a′ + b′
 more k n a b p q a′ b′ e h l r = omega arith
 
 loop-holds : tie.Need-loop-holds Inv-loop μ-loop
-loop-holds c = (tiled-none 2 two _ _ _ _ _ refl, (tiled-none 2 two _ _ _ _ _ refl, sym (ap₂ _+_ (fetched-none 2 _ _ _ _) (fetched-none 2 _ _ _ _))))
+loop-holds c = (tiled-none 2 two _ _ _ _ _ refl, (tiled-none 2 two _ _ _ _ _ refl, sym (ap₂ _+_ (taken-none 2 _ _ _ _ _) (taken-none 2 _ _ _ _ _))))
 
 from-requires-2 : tie.Need-from-requires-2 Inv-loop μ-loop
 from-requires-2 c κs = let s = c .before .before .before .before .before .pre .1 .0 in (s .x-small, s .y-small, omega arith, omega arith)
@@ -72,11 +68,11 @@ add-total c =
     omega (
       arith,
       c .before .before .before .before .before .before .before .before .before .loop .inv .1 .1,
-      fetched-few 2 p (a .u-at .x) (a .u-at .y) (sent (a .t5)) b,
-      fetched-few 2 q (a .v-at .x) (a .v-at .y) (sent (a .t5)) b,
-      fetched ((c .before .before)),
-      tile-few 2 p (a .u-at .x) (a .u-at .y) (sent (a .t5)) b,
-      tile-few 2 q (a .v-at .x) (a .v-at .y) (sent (a .t5)) b,
+      taken-few 2 (a .set) p (a .u-at .x) (a .u-at .y) (sent (a .t5)) b,
+      taken-few 2 (a .set) q (a .v-at .x) (a .v-at .y) (sent (a .t5)) b,
+      took ((c .before .before)),
+      tile-few 2 (a .set) p (a .u-at .x) (a .u-at .y) (sent (a .t5)) b,
+      tile-few 2 (a .set) q (a .v-at .x) (a .v-at .y) (sent (a .t5)) b,
     )
 
 loop-again : tie.Need-loop-again Inv-loop μ-loop
@@ -87,9 +83,9 @@ loop-again c =
       tiled-more 2 two _ _ _ _ _ (c .before .before .before .before .before .before .before .before .before .loop .inv .0) h (ap (λ (p : Place). block 4 (a .set) (image (planeAt (a .u .now) p)) (p .x) (p .y) (sent (a .t5) (c .before .before .before .before .before .before .before .before .before .loop .b))) (c .before .before .before .before .before .before .before .from .ensures)) (e .0),
       (
         tiled-more 2 two _ _ _ _ _ (c .before .before .before .before .before .before .before .before .before .loop .inv .1 .0) h (ap (λ (p : Place). block 4 (a .set) (image (planeAt (a .v .now) p)) (p .x) (p .y) (sent (a .t5) (c .before .before .before .before .before .before .before .before .before .loop .b))) (c .before .before .before .before .before .before .from2 .ensures)) (e .1 .0),
-        more _ _ _ _ _ _ _ _ (c .before .before .before .before .before .before .before .before .before .loop .inv .1 .1) (fetched ((c .before .before)))
-            (fetched-more 2 (planeAt (a .u .now) (a .u-at)) (a .u-at .x) (a .u-at .y) (sent (a .t5)) (c .before .before .before .before .before .before .before .before .before .loop .b) refl refl)
-            (fetched-more 2 (planeAt (a .v .now) (a .v-at)) (a .v-at .x) (a .v-at .y) (sent (a .t5)) (c .before .before .before .before .before .before .before .before .before .loop .b) refl refl),
+        more _ _ _ _ _ _ _ _ (c .before .before .before .before .before .before .before .before .before .loop .inv .1 .1) (took ((c .before .before)))
+            (taken-more 2 (a .set) (planeAt (a .u .now) (a .u-at)) (a .u-at .x) (a .u-at .y) (sent (a .t5)) (c .before .before .before .before .before .before .before .before .before .loop .b) refl refl)
+            (taken-more 2 (a .set) (planeAt (a .v .now) (a .v-at)) (a .v-at .x) (a .v-at .y) (sent (a .t5)) (c .before .before .before .before .before .before .before .before .before .loop .b) refl refl),
       ),
     )
 
@@ -102,8 +98,7 @@ returns c =
     let four : c .before .loop .b ≡ 2 * 2 = omega (arith, l .0 .most, c .loop-test .left) in (
       λ i. record { u = u i; v = v i },
       l .1 .1
-          ∙ ap₂ _+_ (fetched-all 2 (planeAt (a .u .now) (a .u-at)) (a .u-at .x) (a .u-at .y) (sent (a .t5)) refl four) (fetched-all 2 (planeAt (a .v .now) (a .v-at)) (a .v-at .x) (a .v-at .y) (sent (a .t5)) refl four)
-          ∙ sym (length-append (tilesOf 2 (planeAt (a .u .now) (a .u-at)) (a .u-at .x) (a .u-at .y) (sent (a .t5))) (tilesOf 2 (planeAt (a .v .now) (a .v-at)) (a .v-at .x) (a .v-at .y) (sent (a .t5)))),
+          ∙ ap₂ _+_ (taken-all 2 (a .set) (planeAt (a .u .now) (a .u-at)) (a .u-at .x) (a .u-at .y) (sent (a .t5)) refl four) (taken-all 2 (a .set) (planeAt (a .v .now) (a .v-at)) (a .v-at .x) (a .v-at .y) (sent (a .t5)) refl four),
     )
 
 pub split-chroma-spec : {M : Type 1} → statement M

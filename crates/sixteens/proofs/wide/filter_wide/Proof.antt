@@ -1,23 +1,27 @@
 -- `wide::filter_wide` meets its contract, by the table. Assumes nothing.
 use borrow.Author.Needs.{needs}
-use mathlib.Core.Path.{sym, ap, _∙_}
-use Rattle.rfc6386.specs.Picture.{haloBlock}
-use Rattle.rfc6386.specs.declared.FilterSet.{FilterSet}
-use Rattle.steps.specs.Window.{windowList}
+use mathlib.Core.Path.{refl, sym, ap, _∙_}
+use Rattle.steps.specs.Tally.{tallyOf}
+use Rattle.steps.specs.Laws.Windows.{block-as, clips-as}
+use Rattle.steps.specs.Laws.Tallies.{window-bilinear}
 use Rattle.sixteens.proofs.wide.filter_wide.Statement.{statement}
 use Rattle.sixteens.proofs.wide.filter_wide.Tie as tie
 
 returns : tie.Need-returns
 returns c =
-    let a = c .before .before .before .before .args in
-    c .six-wide .ensures
-    ∙ ap (λ (set : FilterSet). haloBlock 16 set (windowList 21 (a .src .now) (a .window .at) (a .window .pitch)) (a .way .mx) (a .way .my)) (sym (c .before .enum-told .given .1))
+    let e = c .six-wide .ensures in
+    let z = c .before .before .enum-told .given .1 in
+    (e .0 ∙ block-as 16 _ z refl refl, e .1 ∙ ap tallyOf (clips-as 16 _ z refl refl))
 
 returns-2 : tie.Need-returns-2
 returns-2 c =
-    let a = c .before .before .before .before .args in
-    c .mixed-wide .ensures
-    ∙ ap (λ (set : FilterSet). haloBlock 16 set (windowList 21 (a .src .now) (a .window .at) (a .window .pitch)) (a .way .mx) (a .way .my)) (sym (c .before .enum-told2 .given .1))
+    let s = c .before .before .before .before in
+    let a = s .args in
+    let z = c .before .enum-told2 .given .1 in (
+      c .mixed-wide .ensures ∙ block-as 16 _ z refl refl,
+      sym (window-bilinear 16 (a .src .now) (a .window .at) (a .window .pitch) (a .way .mx) (a .way .my) z
+          (λ i. c .before .before .before .shared-slice-known .given i .fits) (s .pre .1 .0) (s .pre .1 .1)),
+    )
 
 pub filter-wide-spec : {M : Type 1} → statement M
 filter-wide-spec =

@@ -4,9 +4,9 @@ use native.Mathlib.Omega.{arith}
 use Rattle.steps.proofs.step.kept_at.Statement.{statement}
 use Rattle.steps.proofs.step.kept_at.Tie as tie
 
-weigh-requires : tie.Need-weigh-requires
-weigh-requires c κs =
-    let s = (c .before .before .before .before .before .before .before) in
+counted-requires : tie.Need-counted-requires
+counted-requires c κs =
+    let s = c .before .before .before .before .before .before .before in
     let low = s .pre .1 .1 .each in
     (s .pre .0, (low _ (omega arith), low _ (omega arith), low _ (omega arith), low _ (omega arith), low _ (omega arith), low _ (omega arith)))
 
@@ -35,5 +35,5 @@ kept-at-spec =
     (λ c. search needs)
     (λ c. search needs)
     (λ c. search needs)
-    weigh-requires
-    (λ c. search needs))
+    counted-requires
+    (λ c. c .counted .ensures))

@@ -11,7 +11,7 @@ use Rattle.rfc6386.specs.Report.{wholeReport, splitReport, quartersReport}
 use Rattle.vector_bytes.specs.Bytes.{vectorsOf}
 use Rattle.outputs.specs.Laws.{told-as}
 use Rattle.threshowl.specs.Boundary.{setOf, flagOf, kindOf, reportCodes}
-use Rattle.threshowl.proofs.Reports.{whole-by, split-by, quarters-by}
+use Rattle.threshowl.proofs.Reports.{whole-by, split-by, quarters-by, said}
 use Rattle.rfc6386.specs.declared.Mv.{Mv}
 use Rattle.rfc6386.specs.declared.FilterSet.{FilterSet}
 use Rattle.threshowl.proofs.report.threshowl_predict_report.Statement.{statement}
@@ -48,39 +48,42 @@ module _ (k : tie.After-kind-of) where
 
 returns : tie.Need-returns
 returns c =
-    let w = c .before .before in
+    let w = c .before .before .before .before .before .before in
     let t = w .before .before .before in
     let k = t .before in
     let a = start k .args in
-    told-as
+    said (c .tell .ensures)
+    (told-as
     (ap₂ (λ (s : FilterSet) (l : List Mv). wholeReport s (low k) (ref k) (a .mb-col) (a .mb-row) (sent l 0)) (k .before .set-of .ensures) (k .before .before .mvs-of-bytes .ensures)
     ∙ whole-by (set k) (low k) (ref k) (a .mb-col) (a .mb-row) (vs k) (a .kind) (sym (kind-is k) ∙ t .if1 .taken))
     (codes-are k)
-    (w .whole-into .ensures)
+    (w .whole-into .ensures))
 
 returns-2 : tie.Need-returns-2
 returns-2 c =
-    let w = c .before .before in
+    let w = c .before .before .before .before .before .before in
     let t = w .before .before in
     let k = t .before .before in
     let a = start k .args in
-    told-as
+    said (c .tell2 .ensures)
+    (told-as
     (ap₂ (λ (s : FilterSet) (l : List Mv). splitReport s (low k) (ref k) (a .mb-col) (a .mb-row) l) (k .before .set-of .ensures) (k .before .before .mvs-of-bytes .ensures)
     ∙ split-by (set k) (low k) (ref k) (a .mb-col) (a .mb-row) (vs k) (a .kind) (sym (kind-is k) ∙ t .if2 .taken))
     (codes-are k)
-    (w .split-into .ensures)
+    (w .split-into .ensures))
 
 returns-3 : tie.Need-returns-3
 returns-3 c =
-    let w = c .before .before in
+    let w = c .before .before .before .before .before .before in
     let e = w .before .before in
     let k = e .before .before in
     let a = start k .args in
-    told-as
+    said (c .tell3 .ensures)
+    (told-as
     (ap₂ (λ (s : FilterSet) (l : List Mv). quartersReport s (low k) (ref k) (a .mb-col) (a .mb-row) l) (k .before .set-of .ensures) (k .before .before .mvs-of-bytes .ensures)
     ∙ quarters-by (set k) (low k) (ref k) (a .mb-col) (a .mb-row) (vs k) (a .kind) (λ z. e .before .if1 .left (kind-is k ∙ z)) (λ z. e .if2 .left (kind-is k ∙ z)))
     (codes-are k)
-    (w .quarters-into .ensures)
+    (w .quarters-into .ensures))
 
 pub threshowl-predict-report-spec : {M : Type 1} → statement M
 threshowl-predict-report-spec =
@@ -96,11 +99,14 @@ threshowl-predict-report-spec =
     (λ c κs. search needs)
     (λ c. search needs)
     (λ c κs. search needs)
+    (λ c κs. search needs)
     (λ c. search needs)
     returns
     (λ c κs. search needs)
+    (λ c κs. search needs)
     (λ c. search needs)
     returns-2
+    (λ c κs. search needs)
     (λ c κs. search needs)
     (λ c. search needs)
     returns-3)
