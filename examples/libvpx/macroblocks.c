@@ -36,7 +36,7 @@ enum { BORDER = VP8BORDERINPIXELS, LARGEST = 5, UNTOUCHED = 0x5A };
 
 /* ---- a picture, its samples, and the place in it */
 
-static void fill(unsigned char *to, int stride, int width, int height)
+static void fill_plane(unsigned char *to, int stride, int width, int height)
 {
     int kind = (int)below(3);
 
@@ -59,9 +59,9 @@ static YV12_BUFFER_CONFIG new_frame(int cols, int rows)
 
 static void draw_samples(YV12_BUFFER_CONFIG *frame)
 {
-    fill(frame->y_buffer, frame->y_stride, frame->y_width, frame->y_height);
-    fill(frame->u_buffer, frame->uv_stride, frame->uv_width, frame->uv_height);
-    fill(frame->v_buffer, frame->uv_stride, frame->uv_width, frame->uv_height);
+    fill_plane(frame->y_buffer, frame->y_stride, frame->y_width, frame->y_height);
+    fill_plane(frame->u_buffer, frame->uv_stride, frame->uv_width, frame->uv_height);
+    fill_plane(frame->v_buffer, frame->uv_stride, frame->uv_width, frame->uv_height);
     vp8_yv12_extend_frame_borders(frame);
 }
 
