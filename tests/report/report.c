@@ -8,12 +8,12 @@
  *
  * For whole, split, merging and by quarters: the number, the bytes and the counts,
  * on noise, on checkerboards of 0 and 255, on stripes and on a smooth picture; by
- * every pair of fractions, and on every class of vectors (whole pixels, fractions on one axis or both, of any
- * size, about the two ends of -16384..16383), equal, equal by quarters or mixed, at
- * every macroblock of a small picture, by both tables and with the flag on and
- * off; and with faults drawn at random, where the counts must be 0 and every byte
- * of the output kept.  Then threshowl_add_clipped, on totals drawn about the last
- * that fits.  Exit status: 0 as it should be, 1 not.
+ * every pair of fractions, and on every class of vectors (whole pixels, fractions on
+ * one axis or both, of any size, about the two ends of -16384..16383), equal, equal
+ * by quarters or mixed, at every macroblock of a small picture, by both tables and
+ * with the flag on and off; and with faults drawn at random, where the counts must
+ * be 0 and every byte of the output kept.  Then threshowl_add_clipped, on totals
+ * drawn about the last that fits.  Exit status: 0 as it should be, 1 not.
  */
 #include <inttypes.h>
 #include <stdbool.h>
@@ -324,7 +324,8 @@ static void compare(const Case *c)
         calls++;
         lows += got.low;
         highs += got.high;
-        if (got.number != due.number || got.fetched != due.fetched || got.low != due.low || got.high != due.high || memcmp(got.out, due.out, sizeof got.out) != 0)
+        if (got.number != due.number || got.fetched != due.fetched || got.low != due.low || got.high != due.high ||
+            memcmp(got.out, due.out, sizeof got.out) != 0)
             complain("answer", c, kind, &got);
         if (least[kind] == 0 || got.fetched < least[kind]) least[kind] = got.fetched;
         if (got.fetched > most[kind]) most[kind] = got.fetched;
@@ -365,15 +366,19 @@ static void draw_vectors(Case *c, Component of)
     }
 }
 
-/* ---- faults, each of them drawn at random: nothing is fetched, nothing written */
+/* ---- faults, each of them drawn at random: its number, nothing fetched, nothing written */
 
 static void faulty(void)
 {
+    static const uint32_t numbers[] = {THRESHOWL_BAD_SIZE,    THRESHOWL_BAD_STRIDE,      THRESHOWL_BAD_STRIDE,
+                                       THRESHOWL_SHORT_PLANE, THRESHOWL_OUTSIDE_PICTURE, THRESHOWL_BAD_FILTER,
+                                       THRESHOWL_BAD_VECTORS, THRESHOWL_BAD_OUT,         THRESHOWL_BAD_ORDERS};
+    const size_t fault = below(sizeof numbers / sizeof numbers[0]);
     Case c = {below(COLS), below(ROWS), {{0, 0}}, draw() & 1, draw() & 1};
     Rest r = good;
     draw_vectors(&c, small);
     r.kind = (uint8_t)below(KINDS);
-    switch (below(9)) {
+    switch (fault) {
     case 0: r.cols = draw() & 1 ? 0 : 1025; break;
     case 1: r.y_stride = COLS * 16 - 1; break;
     case 2: r.v_stride = 32769; break;
@@ -387,7 +392,7 @@ static void faulty(void)
     const Answer got = report(&c, &r);
     calls++;
     refused++;
-    bool kept = got.fetched == 0 && got.low == 0 && got.high == 0 && got.number != THRESHOWL_DONE;
+    bool kept = got.fetched == 0 && got.low == 0 && got.high == 0 && got.number == numbers[fault];
     for (size_t i = 0; i < sizeof got.out; i++)
         kept = kept && got.out[i] == KEPT;
     if (!kept)
