@@ -201,7 +201,7 @@ target/freestanding/host: $(FREESTANDING) include/threshowl.h $(ARCHIVE) | tools
 	    -Wl,--whole-archive "$(ARCHIVE)" -Wl,--no-whole-archive -o $@
 
 # The driver NAME is tests/NAME/NAME.c.
-target/mirror/mirror target/versions/versions target/quarters/quarters target/report/report target/frame/frame: target/%: tests/%.c tests/draw.h include/threshowl.h $(ARCHIVE) | tools
+target/mirror/mirror target/versions/versions target/quarters/quarters target/report/report target/frame/frame: target/%: tests/%.c tests/draw.h tests/vectors.h include/threshowl.h $(ARCHIVE) | tools
 	mkdir -p $(@D)
 	$(AS_C) -Iinclude $< "$(ARCHIVE)" $(LDLIBS) -o $@
 

@@ -21,6 +21,7 @@
 #include <time.h>
 
 #include "../tests/draw.h"
+#include "../tests/vectors.h"
 #include "threshowl.h"
 
 enum { ROUNDS = 200, MOST = 128, REFERENCES = 3, ORDER = THRESHOWL_ORDER_LEN, COLS = 40, ROWS = 30, STACK = 1 << 16 };
@@ -78,12 +79,6 @@ static void free_frame(Frame f)
 typedef struct {
     int16_t row, col;
 } Mv;
-
-static void put_component(uint8_t *to, int16_t z)
-{
-    to[0] = (uint8_t)((uint16_t)z & 255);
-    to[1] = (uint8_t)((uint16_t)z >> 8);
-}
 
 static int16_t component(const uint8_t *from)
 {

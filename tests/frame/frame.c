@@ -19,6 +19,7 @@
 #include <string.h>
 
 #include "../draw.h"
+#include "../vectors.h"
 #include "threshowl.h"
 
 enum { COLS = 12, ROWS = 9, GAP = 9, TAIL = 40, MARGIN = 16, BLOCKS = 16, ORDER = THRESHOWL_ORDER_LEN, REFERENCES = 3, PLANES = 3 };
@@ -64,12 +65,6 @@ static int16_t whole(void) { return (int16_t)(between(-12, 12) * 4); }
 static int16_t none(void) { return 0; }
 
 static const Component kinds[] = {small, any, about_the_ends, whole, none};
-
-static void put_component(uint8_t *to, int16_t z)
-{
-    to[0] = (uint8_t)((uint16_t)z & 255);
-    to[1] = (uint8_t)((uint16_t)z >> 8);
-}
 
 static int16_t component(const uint8_t *from)
 {

@@ -20,6 +20,7 @@
 #include <string.h>
 
 #include "../draw.h"
+#include "../vectors.h"
 #include "threshowl.h"
 
 enum { COLS = 4, ROWS = 3, Y_STRIDE = COLS * 16 + 5, U_STRIDE = COLS * 8 + 3, V_STRIDE = COLS * 8 };
@@ -90,12 +91,6 @@ static size_t quarter_of(size_t block)
 static Call good_call(void)
 {
     return (Call){Y_LEN, U_LEN, V_LEN, Y_STRIDE, U_STRIDE, V_STRIDE, COLS, ROWS, 0, 0, {{0, 0}}, VECTORS_LEN, OUT, 0, 0};
-}
-
-static void put_component(uint8_t *to, int16_t z)
-{
-    to[0] = (uint8_t)((uint16_t)z & 255);
-    to[1] = (uint8_t)((uint16_t)z >> 8);
 }
 
 typedef uint32_t Predict(const uint8_t *, size_t, const uint8_t *, size_t, const uint8_t *, size_t, size_t, size_t, size_t, size_t, size_t,

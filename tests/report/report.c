@@ -21,6 +21,7 @@
 #include <string.h>
 
 #include "../draw.h"
+#include "../vectors.h"
 #include "threshowl.h"
 
 enum { COLS = 4, ROWS = 3, Y_STRIDE = COLS * 16 + 5, U_STRIDE = COLS * 8 + 3, V_STRIDE = COLS * 8 };
@@ -258,12 +259,6 @@ typedef struct {
     uint64_t fetched, low, high;
     uint8_t out[OUT + MARGIN];
 } Answer;
-
-static void put_component(uint8_t *to, int16_t z)
-{
-    to[0] = (uint8_t)((uint16_t)z & 255);
-    to[1] = (uint8_t)((uint16_t)z >> 8);
-}
 
 static void put_vectors(uint8_t *bytes, const Case *c)
 {
