@@ -8,6 +8,7 @@ ghost use Rattle.threshowl.specs.Boundary as boundary;
 ghost use Rattle.threshowl.specs.Boundary.{pictureOf, reportCodes, reportBy};
 use crate::boundary::codes_refusal;
 use crate::boundary::set_of;
+use crate::finished::with_late;
 use motion_vectors::are_one;
 use numbers::ORDERS;
 use outputs::Ended;
@@ -15,8 +16,6 @@ use outputs::quarters_into;
 use outputs::split_into;
 use outputs::whole_into;
 use prediction::add_clipped;
-use refusals::or_else;
-use refusals::room_refusal;
 use rfc6386::Mv;
 use rfc6386::Sizes;
 use vector_bytes::mvs_of_bytes;
@@ -83,8 +82,8 @@ pub extern "C" fn threshowl_predict_report(
         mb_cols,
         mb_rows,
     };
-    let late = or_else(room_refusal(out.len()), kind_refusal(kind));
-    let codes = or_else(codes_refusal(filter, vectors.len()), late);
+    let given = codes_refusal(filter, vectors.len());
+    let codes = with_late(given, out.len(), kind_refusal(kind));
     let mvs = mvs_of_bytes(vectors);
     let lower = full_pixel != 0;
     let set = set_of(filter);

@@ -5,7 +5,7 @@ use Prim.Native.Nat.{ℕ}
 use lib.ListN.{length}
 use borrow.Author.Needs.{needs}
 use Rattle.rfc6386.specs.Vector.{Lowering, fullPixel, sent}
-use Rattle.rfc6386.specs.Refusal.{orElse}
+use Rattle.rfc6386.specs.Refusal.{orElse, roomRefusal}
 use Rattle.rfc6386.specs.Macroblock.{Reference, lent}
 use Rattle.rfc6386.specs.Report.{wholeReport, splitReport, quartersReport}
 use Rattle.vector_bytes.specs.Bytes.{vectorsOf}
@@ -20,7 +20,7 @@ use Rattle.threshowl.proofs.report.threshowl_predict_report.Tie as tie
 -- what is asked for
 module _ (k : tie.After-kind-of) where
   abbrev start : tie.Start
-  start = k .before .before .before .before .before .before .before .before .before .before .before .before .before
+  start = k .before .before .before .before .before .before .before .before .before .before .before
 
   abbrev set : FilterSet
   set = setOf (start .args .filter)
@@ -36,12 +36,11 @@ module _ (k : tie.After-kind-of) where
   abbrev vs : List Mv
   vs = vectorsOf (start .args .vectors .now)
 
-  codes-are : k .before .before .before .or-else2 .result ≡ reportCodes (start .args .filter) (length (start .args .vectors .now)) (length (start .args .out .now)) (start .args .kind)
+  codes-are : k .before .before .before .with-late .result ≡ reportCodes (start .args .filter) (length (start .args .vectors .now)) (length (start .args .out .now)) (start .args .kind)
   codes-are =
-      let o = k .before .before .before in
-      let late = o .before .before in
-      o .or-else2 .ensures
-      ∙ ap₂ orElse (o .before .codes-refusal .ensures) (late .or-else .ensures ∙ ap₂ orElse (late .before .before .room-refusal .ensures) (late .before .kind-refusal .ensures))
+      let late = k .before .before .before in
+      late .with-late .ensures
+      ∙ ap₂ (λ c l. orElse c (orElse (roomRefusal (length (start .args .out .now))) l)) (late .before .before .codes-refusal .ensures) (late .before .kind-refusal .ensures)
 
   kind-is : k .kind-of .result ≡ kindOf (start .args .kind) vs
   kind-is = k .kind-of .ensures ∙ ap (kindOf (start .args .kind)) (k .before .before .mvs-of-bytes .ensures)
@@ -89,8 +88,6 @@ pub threshowl-predict-report-spec : {M : Type 1} → statement M
 threshowl-predict-report-spec =
     tie.close
     (tie.spec
-    (λ c κs. search needs)
-    (λ c κs. search needs)
     (λ c κs. search needs)
     (λ c κs. search needs)
     (λ c κs. search needs)
