@@ -18,7 +18,7 @@ use Rattle.rfc6386.specs.Clips.{predictedClip, blockClips, clipsBy}
 use Rattle.rfc6386.specs.Laws.Raster.{is-tab, row-fits, within-true, getD-written, length-written, Within, within-is}
 use Rattle.rfc6386.specs.Laws.Tests.{and-true}
 use Rattle.rfc6386.specs.Laws.Blocks.{block-sample}
-use Rattle.rfc6386.specs.Laws.Fetched.{cost, length-block, length-tiles, cost-most, joined-more, length-joined, total, total-most}
+use Rattle.rfc6386.specs.Laws.Fetched.{cost, length-block, length-tiles, cost-most, joined-more, length-joined}
 use Rattle.rfc6386.specs.Laws.Sums.{sum-more, sum-le, sum-ext, rows-ext, sum-tiles}
 use Rattle.rfc6386.specs.Laws.Clipping.{block-clips-le, block-clips-ext}
 use Rattle.rfc6386.specs.declared.Mv.{Mv}
@@ -170,7 +170,7 @@ module _ (per : ℕ) (set : FilterSet) (p : Plane) (x y : ℕ) (vector : ℕ →
   taken-few b =
       taken-most b
       (subst (λ (k : ℕ). k ≤ b * 81) (sym (length-joined b tileList))
-      (total-most b 81 (λ i. length (tileList i)) (λ i h. subst (λ (k : ℕ). k ≤ 81) (sym (length-block 4 p (x + i % per * 4) (y + i / per * 4) (vector i))) (cost-most 4 (vector i)))))
+      (sum-le b 81 (λ i. length (tileList i)) (λ i h. subst (λ (k : ℕ). k ≤ 81) (sym (length-block 4 p (x + i % per * 4) (y + i / per * 4) (vector i))) (cost-most 4 (vector i)))))
       (sum-le b 8208 tileTally (λ i h. tally-few i))
 
   -- the clips of all blocks are the square's: by their parts, a sample at a time
@@ -198,10 +198,6 @@ module _ (per : ℕ) (set : FilterSet) (p : Plane) (x y : ℕ) (vector : ℕ →
   unfolding tilesOf
   taken-all e h = e ∙ ap takenBy h ∙ ap (λ (t : ℕ). length (joined (per * per) tileList) + 4294967296 * t) tiles-tally
 
-total-below : (n : ℕ) (f g : ℕ → ℕ) → ((i : ℕ) → i < n → f i ≡ g i) → total n f ≡ total n g
-total-below zero f g h = refl
-total-below (suc n) f g h = ap₂ _+_ (total-below n f g (λ i k. h i (omega arith))) (h n (omega arith))
-
 -- the same blocks by vectors that are the same
 tiles-same : (per : ℕ) (p : Plane) (x y : ℕ) (f g : ℕ → Mv) → ((b : ℕ) → b < per * per → f b ≡ g b) → length (tilesOf per p x y f) ≡ length (tilesOf per p x y g)
 unfolding tilesOf
@@ -209,7 +205,7 @@ tiles-same per p x y f g h = joined-same (per * per) h
   where
     joined-same : (n : ℕ) → ((b : ℕ) → b < n → f b ≡ g b)
         → length (joined n (λ b. blockOf 4 p (x + b % per * 4) (y + b / per * 4) (f b))) ≡ length (joined n (λ b. blockOf 4 p (x + b % per * 4) (y + b / per * 4) (g b)))
-    joined-same n h = length-joined n _ ∙ total-below n _ _ (λ b k. ap (λ (v : Mv). length (blockOf 4 p (x + b % per * 4) (y + b / per * 4) v)) (h b k)) ∙ sym (length-joined n _)
+    joined-same n h = length-joined n _ ∙ sum-ext n _ _ (λ b k. ap (λ (v : Mv). length (blockOf 4 p (x + b % per * 4) (y + b / per * 4) v)) (h b k)) ∙ sym (length-joined n _)
 
 pub takes-same : (per : ℕ) (set : FilterSet) (p : Plane) (x y : ℕ) (f g : ℕ → Mv) → ((b : ℕ) → b < per * per → f b ≡ g b)
     → tilesTake per set p x y f ≡ tilesTake per set p x y g
@@ -227,7 +223,7 @@ tiles-few per set p x y f e =
     let le = block-clips-le (per * 4) set (image p) x y (λ r c. f (r / 4 * per + c / 4)) in
     subst (λ (k : ℕ). k ≤ per * per * 1000000000000000) (sym e)
     (taken-most (per * per)
-    (subst (λ (k : ℕ). k ≤ per * per * 81) (sym (length-tiles per p x y f)) (total-most (per * per) 81 (λ b. cost 4 (f b)) (λ b h. cost-most 4 (f b))))
+    (subst (λ (k : ℕ). k ≤ per * per * 81) (sym (length-tiles per p x y f)) (sum-le (per * per) 81 (λ b. cost 4 (f b)) (λ b h. cost-most 4 (f b))))
     (tally (per * per) (j .low) (j .high) (subst (λ (k : ℕ). j .low + j .high ≤ k) square le)))
   where
     square : per * 4 * (per * 4) ≡ 16 * (per * per)

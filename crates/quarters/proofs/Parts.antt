@@ -19,8 +19,8 @@ use Rattle.rfc6386.specs.Macroblock.{subblock}
 use Rattle.rfc6386.specs.Report.{oneIn, luma}
 use Rattle.rfc6386.specs.Laws.Raster.{raster-ext, getD-written, length-written, written-ext, written-all, Within, within-is}
 use Rattle.rfc6386.specs.Laws.Blocks.{block-at, block-part}
-use Rattle.rfc6386.specs.Laws.Fetched.{cost, length-block, length-tiles, cost-most, total-most, one-in, luma-apart, luma-one, luma-least, luma-split, luma-most}
-use Rattle.rfc6386.specs.Laws.Sums.{rows-ext, sum-quarters}
+use Rattle.rfc6386.specs.Laws.Fetched.{cost, length-block, length-tiles, cost-most, one-in, luma-apart, luma-one, luma-least, luma-split, luma-most}
+use Rattle.rfc6386.specs.Laws.Sums.{sum-le, rows-ext, sum-quarters}
 use Rattle.rfc6386.specs.Laws.Clipping.{totals-ext, totals-le}
 use Rattle.rfc6386.specs.declared.Mv.{Mv}
 use Rattle.rfc6386.specs.declared.FilterSet.{FilterSet}
@@ -286,7 +286,7 @@ module _ (low : Lowering) (p : Plane) (at-x at-y : ℕ) (mvs : List Mv) where
 
   -- all of it: never more than sixteen blocks, and those where no quarter has one vector
   pub count-most : count 16 0 0 ≤ 1296
-  count-most = omega (arith, luma-most low p at-x at-y mvs, total-most 16 81 (λ b. cost 4 (lumaVector low (sent mvs b))) (λ b h. cost-most 4 (lumaVector low (sent mvs b))))
+  count-most = omega (arith, luma-most low p at-x at-y mvs, sum-le 16 81 (λ b. cost 4 (lumaVector low (sent mvs b))) (λ b h. cost-most 4 (lumaVector low (sent mvs b))))
 
   count-split : ((q : ℕ) → q < 4 → OneVector mvs (q % 2 * 8) (q / 2 * 8) 8 → ⊥)
       → length (tilesOf 4 p at-x at-y (λ b. lumaVector low (sent mvs b))) ≡ count 16 0 0

@@ -14,15 +14,17 @@ use Rattle.rfc6386.specs.Vector.{Lowering, fullPixel, wholePart, fractio
 use Rattle.rfc6386.specs.Picture.{Plane}
 use Rattle.rfc6386.specs.Macroblock.{Reference, planeY, planeU, planeV, refusal, answered, whole, split}
 use Rattle.rfc6386.specs.Clips.{noClips}
+use Rattle.rfc6386.specs.Sums.{sumTo}
 use Rattle.rfc6386.specs.Fetched.{Coordinate, pixelsOf, blockOf, tilesOf}
 use Rattle.rfc6386.specs.Report.{wholeOf, wholePixelOf, splitChromaOf, splitOf, isOne, mergingOf, luma, quartersOf, splitClips, reported, wholeReport, splitReport, mergingReport, quartersReport}
 use Rattle.rfc6386.specs.Telling.{sixteen}
 use Rattle.rfc6386.specs.Merging.{merge-alike}
 use Rattle.rfc6386.specs.Clipping as clipping
 use Rattle.rfc6386.specs.Laws.Vectors.{part, fraction-is, fraction-under}
+use Rattle.rfc6386.specs.Laws.Sums.{sum-least, sum-le}
 use Rattle.rfc6386.specs.Laws.Refusals.{done, refused}
 use Rattle.rfc6386.specs.Laws.Merging.{BothInside, mergeable-true, sent-equal, quarter-equal, chroma-equal, quarter-alike}
-use Rattle.rfc6386.specs.Laws.Fetched.{cost, length-square, length-block, length-tiles, total, total-least, total-most, cost-least, cost-most, cost-eight, cost-sixteen, is-one, luma-most, luma-some}
+use Rattle.rfc6386.specs.Laws.Fetched.{cost, length-square, length-block, length-tiles, cost-least, cost-most, cost-eight, cost-sixteen, is-one, luma-most, luma-some}
 use Rattle.rfc6386.specs.declared.Mv.{Mv}
 use Rattle.rfc6386.specs.declared.FilterSet.{FilterSet}
 use Rattle.rfc6386.specs.declared.Prediction.{Prediction}
@@ -48,10 +50,10 @@ module _ (low : Lowering) (ref : Reference) (col row : ℕ) where
       )
 
   abbrev lumaCost : List Mv → ℕ
-  lumaCost vs = total 16 (λ b. cost 4 (lumaVector low (sent vs b)))
+  lumaCost vs = sumTo 16 (λ b. cost 4 (lumaVector low (sent vs b)))
 
   abbrev chromaCost : List Mv → ℕ
-  chromaCost vs = total 4 (λ q. cost 4 (quarterVector low vs q))
+  chromaCost vs = sumTo 4 (λ q. cost 4 (quarterVector low vs q))
 
   chroma-length : (vs : List Mv) → length (splitChromaOf low ref col row vs) ≡ chromaCost vs + chromaCost vs
   unfolding splitChromaOf
@@ -83,10 +85,10 @@ module _ (low : Lowering) (ref : Reference) (col row : ℕ) where
   -- split prediction 384 to 1944,
   pub split-range : (vs : List Mv) → let n = length (splitOf low ref col row vs) in (384 ≤ n) × (n ≤ 1944)
   split-range vs =
-      let a = total-least 16 16 (λ b. cost 4 (lumaVector low (sent vs b))) (λ b h. cost-least 4 (lumaVector low (sent vs b))) in
-      let b = total-least 4 16 (λ q. cost 4 (quarterVector low vs q)) (λ q h. cost-least 4 (quarterVector low vs q)) in
-      let c = total-most 16 81 (λ b. cost 4 (lumaVector low (sent vs b))) (λ b h. cost-most 4 (lumaVector low (sent vs b))) in
-      let d = total-most 4 81 (λ q. cost 4 (quarterVector low vs q)) (λ q h. cost-most 4 (quarterVector low vs q)) in
+      let a = sum-least 16 16 (λ b. cost 4 (lumaVector low (sent vs b))) (λ b h. cost-least 4 (lumaVector low (sent vs b))) in
+      let b = sum-least 4 16 (λ q. cost 4 (quarterVector low vs q)) (λ q h. cost-least 4 (quarterVector low vs q)) in
+      let c = sum-le 16 81 (λ b. cost 4 (lumaVector low (sent vs b))) (λ b h. cost-most 4 (lumaVector low (sent vs b))) in
+      let d = sum-le 4 81 (λ q. cost 4 (quarterVector low vs q)) (λ q h. cost-most 4 (quarterVector low vs q)) in
       (omega (arith, split-length vs), omega (arith, split-length vs))
 
   -- by quarters at most as many as split,
@@ -95,7 +97,7 @@ module _ (low : Lowering) (ref : Reference) (col row : ℕ) where
 
   quarters-least : (vs : List Mv) → 384 ≤ length (quartersOf low ref col row vs)
   quarters-least vs =
-      let b = total-least 4 16 (λ q. cost 4 (quarterVector low vs q)) (λ q h. cost-least 4 (quarterVector low vs q)) in
+      let b = sum-least 4 16 (λ q. cost 4 (quarterVector low vs q)) (λ q h. cost-least 4 (quarterVector low vs q)) in
       omega (arith, quarters-length vs, luma-some low (planeY ref) (col * 16) (row * 16) vs)
 
   -- and so merging: whole's where the sixteen vectors are one, else split's.
@@ -126,8 +128,8 @@ module _ (low : Lowering) (ref : Reference) (col row : ℕ) where
   whole-most vs o =
       let v = sent vs 0 in
       let chroma : (q : ℕ) → q < 4 → chromaVector low v ≡ quarterVector low vs q = (λ q h. chroma-equal low v q (mergeable-true v (o .mergeable-is)) h ∙ quarter-alike low (sixteen v) vs (λ b k. sent-equal v b k ∙ sym (o .alike b k)) q h) in
-      let a = total-least 16 (cost 4 (lumaVector low v)) (λ b. cost 4 (lumaVector low (sent vs b))) (λ b h. le-of-eq (ap (λ (w : Mv). cost 4 (lumaVector low w)) (sym (o .alike b h)))) in
-      let b = total-least 4 (cost 4 (chromaVector low v)) (λ q. cost 4 (quarterVector low vs q)) (λ q h. le-of-eq (ap (cost 4) (chroma q h))) in
+      let a = sum-least 16 (cost 4 (lumaVector low v)) (λ b. cost 4 (lumaVector low (sent vs b))) (λ b h. le-of-eq (ap (λ (w : Mv). cost 4 (lumaVector low w)) (sym (o .alike b h)))) in
+      let b = sum-least 4 (cost 4 (chromaVector low v)) (λ q. cost 4 (quarterVector low vs q)) (λ q h. le-of-eq (ap (cost 4) (chroma q h))) in
       omega (arith, whole-length v, split-length vs, cost-sixteen (lumaVector low v), cost-eight (chromaVector low v))
 
   pub merging-most : (vs : List Mv) → length (mergingOf low ref col row vs) ≤ length (splitOf low ref col row vs)
@@ -162,8 +164,8 @@ module _ (ref : Reference) (col row : ℕ) where
 
   pub split-full : (vs : List Mv) → length (splitOf full ref col row vs) ≡ 384
   split-full vs =
-      let y = total-most 16 16 (λ b. cost 4 (lumaVector full (sent vs b))) (λ b h. le-of-eq (whole-cost 4 (lumaVector full (sent vs b)) (is-whole stored (sent vs b)))) in
-      let c = total-most 4 16 (λ q. cost 4 (quarterVector full vs q)) (λ q h. le-of-eq (whole-cost 4 (quarterVector full vs q) (is-whole (λ z. z) (quarterAverage vs q)))) in
+      let y = sum-le 16 16 (λ b. cost 4 (lumaVector full (sent vs b))) (λ b h. le-of-eq (whole-cost 4 (lumaVector full (sent vs b)) (is-whole stored (sent vs b)))) in
+      let c = sum-le 4 16 (λ q. cost 4 (quarterVector full vs q)) (λ q h. le-of-eq (whole-cost 4 (quarterVector full vs q) (is-whole (λ z. z) (quarterAverage vs q)))) in
       omega (arith, split-length full ref col row vs, split-range full ref col row vs .0)
 
   pub quarters-full : (vs : List Mv) → length (quartersOf full ref col row vs) ≡ 384
@@ -206,9 +208,11 @@ module _ (ref : Reference) (col row : ℕ) where
   whole-reaches-most = whole-length plain ref col row aQuarter
 
   pub split-reaches-least : length (splitOf plain ref col row (sixteen zeroVector)) ≡ 384
+  unfolding sumTo
   split-reaches-least = split-length plain ref col row (sixteen zeroVector)
 
   pub split-reaches-most : length (splitOf plain ref col row (sixteen aQuarter)) ≡ 1944
+  unfolding sumTo
   split-reaches-most = split-length plain ref col row (sixteen aQuarter)
 
 -- ---- reports

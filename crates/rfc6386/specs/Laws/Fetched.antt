@@ -4,7 +4,7 @@ use mathlib.Core.Bool.{Bool, true, false, cond, _&&_}
 use mathlib.Core.Logic.{_↔_, ⊎-elim}
 use mathlib.Core.List.{List, _∷_, _++_, map}
 use Prim.Native.Nat.{ℕ, zero, suc, _+_, _*_, _/_, _%_, _^_, _<_, _≤_}
-use native.Mathlib.Nat.{suc-mul, le-of-eq, mul-le-mul, not-suc-le-zero, eq-or-lt-of-le, mod-lt, div-lt-iff-lt-mul}
+use native.Mathlib.Nat.{le-of-eq, mul-le-mul, not-suc-le-zero, eq-or-lt-of-le, mod-lt, div-lt-iff-lt-mul}
 use native.Mathlib.Omega.{arith}
 use borrow.Author.Tests.{le-leb}
 use lib.Arith.{digits-div, digits-mod}
@@ -15,6 +15,7 @@ use Rattle.signed.specs.Int.{leZ-true, int}
 use Rattle.rfc6386.specs.Number.{clamped}
 use Rattle.rfc6386.specs.Vector.{Lowering, wholePart, lumaVector, sent, isWhole, mergeable, One}
 use Rattle.rfc6386.specs.Raster.{tab, raster}
+use Rattle.rfc6386.specs.Sums.{sumTo}
 use Rattle.rfc6386.specs.Picture.{Plane, sampleAt, image, square, pixels, halo}
 use Rattle.rfc6386.specs.Refusal.{ifDone, planeRefusal}
 use Rattle.rfc6386.specs.Block.{shown, pixels4, pixels8, pixels16, halo9, halo13, halo21}
@@ -23,6 +24,7 @@ use Rattle.rfc6386.specs.Fetched.{Coordinate, squareOf, pixelsOf, haloOf
 use Rattle.rfc6386.specs.Clips.{noClips}
 use Rattle.rfc6386.specs.Report.{every, sameVector, isOne, oneIn, luma, reported}
 use Rattle.rfc6386.specs.Laws.Raster.{length-tab, row-fits}
+use Rattle.rfc6386.specs.Laws.Sums.{sum-ext, sum-least}
 use Rattle.rfc6386.specs.Laws.Tests.{and-true}
 use Rattle.rfc6386.specs.Laws.Refusals.{done, refused, refused-is, done-is}
 use Rattle.rfc6386.specs.Laws.Vectors.{vector}
@@ -241,33 +243,17 @@ tilesCost (suc k) f x y =
     let half = 4 * 2 ^ k in
     tilesCost k f x y + (tilesCost k f (x + half) y + (tilesCost k f x (y + half) + tilesCost k f (x + half) (y + half)))
 
--- f 0 + f 1 + .. + f (n - 1)
-abbrev pub total : ℕ → (ℕ → ℕ) → ℕ
-total zero f = 0
-total (suc n) f = total n f + f n
-
-pub length-joined : {A : Type 0} (n : ℕ) (f : ℕ → List A) → length (joined n f) ≡ total n (λ i. length (f i))
-unfolding joined
+pub length-joined : {A : Type 0} (n : ℕ) (f : ℕ → List A) → length (joined n f) ≡ sumTo n (λ i. length (f i))
+unfolding joined sumTo
 length-joined zero f = refl
 length-joined (suc n) f = length-append (joined n f) (f n) ∙ ap (λ (k : ℕ). k + length (f n)) (length-joined n f)
 
-pub total-same : (n : ℕ) (f g : ℕ → ℕ) → ((i : ℕ) → f i ≡ g i) → total n f ≡ total n g
-total-same zero f g h = refl
-total-same (suc n) f g h = ap₂ _+_ (total-same n f g h) (h n)
-
-pub total-least : (n c : ℕ) (f : ℕ → ℕ) → ((i : ℕ) → i < n → c ≤ f i) → n * c ≤ total n f
-total-least zero c f h = omega arith
-total-least (suc n) c f h = omega (arith, total-least n c f (λ i k. h i (omega arith)), h n (omega arith), suc-mul n c)
-
-pub total-most : (n c : ℕ) (f : ℕ → ℕ) → ((i : ℕ) → i < n → f i ≤ c) → total n f ≤ n * c
-total-most zero c f h = omega arith
-total-most (suc n) c f h = omega (arith, total-most n c f (λ i k. h i (omega arith)), h n (omega arith), suc-mul n c)
-
-pub length-tiles : (per : ℕ) (p : Plane) (x y : ℕ) (vector : ℕ → Mv) → length (tilesOf per p x y vector) ≡ total (per * per) (λ b. cost 4 (vector b))
+pub length-tiles : (per : ℕ) (p : Plane) (x y : ℕ) (vector : ℕ → Mv) → length (tilesOf per p x y vector) ≡ sumTo (per * per) (λ b. cost 4 (vector b))
 unfolding tilesOf
-length-tiles per p x y vector = length-joined (per * per) _ ∙ total-same (per * per) _ _ (λ b. length-block 4 p (x + b % per * 4) (y + b / per * 4) (vector b))
+length-tiles per p x y vector = length-joined (per * per) _ ∙ sum-ext (per * per) _ _ (λ b h. length-block 4 p (x + b % per * 4) (y + b / per * 4) (vector b))
 
-pub tiles-sixteen : (f : ℕ → ℕ) → tilesCost 2 f 0 0 ≡ total 16 f
+pub tiles-sixteen : (f : ℕ → ℕ) → tilesCost 2 f 0 0 ≡ sumTo 16 f
+unfolding sumTo
 tiles-sixteen f = omega arith
 
 module _ (low : Lowering) (p : Plane) (at-x at-y : ℕ) (vs : List Mv) where
@@ -309,7 +295,7 @@ module _ (low : Lowering) (p : Plane) (at-x at-y : ℕ) (vs : List Mv) where
   least-cost x y = luma-least x y ∙ length-block 4 p (at-x + x) (at-y + y) (lumaVector low (sent vs (subblock y x)))
 
   -- where no quarter has one vector, all is by 4x4 blocks
-  pub luma-split : ((q : ℕ) → q < 4 → oneIn vs (q % 2 * 8) (q / 2 * 8) 8 ≡ false) → length (part 2 0 0) ≡ total 16 due
+  pub luma-split : ((q : ℕ) → q < 4 → oneIn vs (q % 2 * 8) (q / 2 * 8) 8 ≡ false) → length (part 2 0 0) ≡ sumTo 16 due
   luma-split none =
       luma-apart 1 0 0 (not-all (oneIn vs 0 0 16) refl)
       ∙ (λ i. quarter 0 (omega arith) i + (quarter 1 (omega arith) i + (quarter 2 (omega arith) i + quarter 3 (omega arith) i)))
@@ -347,16 +333,16 @@ module _ (low : Lowering) (p : Plane) (at-x at-y : ℕ) (vs : List Mv) where
           omega (arith, luma-apart 0 x y e, least-cost x y, least-cost (x + 4) y, least-cost x (y + 4), least-cost (x + 4) (y + 4))
 
   -- THEOREM. By quarters never takes more than by 4x4 blocks.
-  pub luma-most : length (part 2 0 0) ≤ total 16 due
+  pub luma-most : length (part 2 0 0) ≤ sumTo 16 due
   luma-most = at (oneIn vs 0 0 16) refl
     where
-      at : (b : Bool) → oneIn vs 0 0 16 ≡ b → length (part 2 0 0) ≤ total 16 due
+      at : (b : Bool) → oneIn vs 0 0 16 ≡ b → length (part 2 0 0) ≤ sumTo 16 due
       at true e =
           omega (
             arith,
             luma-one 1 0 0 e ∙ length-block 16 p (at-x + 0) (at-y + 0) (lumaVector low (sent vs 0)),
             cost-sixteen (lumaVector low (sent vs 0)),
-            total-least 16 (cost 4 (lumaVector low (sent vs 0))) due (λ b h. le-of-eq (sym (due-one 0 0 16 e (b / 4 * 4) (b % 4 * 4) b (omega arith) (omega arith) (omega arith)))),
+            sum-least 16 (cost 4 (lumaVector low (sent vs 0))) due (λ b h. le-of-eq (sym (due-one 0 0 16 e (b / 4 * 4) (b % 4 * 4) b (omega arith) (omega arith) (omega arith)))),
           )
       at false e = omega (arith, luma-apart 1 0 0 e, quarter-most 0 0, quarter-most 8 0, quarter-most 0 8, quarter-most 8 8, tiles-sixteen due)
 

@@ -26,6 +26,11 @@ unfolding sumTo
 sum-zero zero f h = refl
 sum-zero (suc n) f h = omega (arith, sum-zero n f (λ i l. h i (omega arith)), h n (omega arith))
 
+pub sum-least : (n m : ℕ) (f : ℕ → ℕ) → ((i : ℕ) → i < n → m ≤ f i) → n * m ≤ sumTo n f
+unfolding sumTo
+sum-least zero m f h = omega arith
+sum-least (suc n) m f h = omega (arith, sum-least n m f (λ i l. h i (omega arith)), h n (omega arith), suc-mul n m)
+
 pub sum-le : (n m : ℕ) (f : ℕ → ℕ) → ((i : ℕ) → i < n → f i ≤ m) → sumTo n f ≤ n * m
 unfolding sumTo
 sum-le zero m f h = omega arith

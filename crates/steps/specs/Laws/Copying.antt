@@ -12,7 +12,7 @@ use lib.Arith.{digits-div, digits-mod}
 use lib.Dec.{leb, ltb}
 use lib.ListN.{length, getD, set, length-set, List·getD-eq-default}
 use lib.Seq.{getD-set-same, getD-set-other}
-use Rattle.rfc6386.specs.Raster.{tab, within, written}
+use Rattle.rfc6386.specs.Raster.{within, written}
 use Rattle.rfc6386.specs.Laws.Raster.{is-tab, length-tab, getD-tab, within-true, row-fits, getD-written}
 use Rattle.steps.specs.Rows.{laid}
 
@@ -127,12 +127,6 @@ laid-parts d to a b f g h room ef eg = laying-all {c = a + b} whole (omega arith
               ∙ sym (List·getD-eq-default d 0 (omega arith)));
         }
 
--- a row over all of a list
-pub laid-over : (d : List ℕ) (n : ℕ) (f : ℕ → ℕ) → length d ≡ n → laid d 0 n f ≡ tab n f
-laid-over d n f e =
-    is-tab 0 n f (laid d 0 n f) (length-laid d 0 n f ∙ e)
-    (λ i h. getD-laid d 0 n f i (omega arith) ∙ ap (λ (b : Bool). cond b (f (i - 0)) (getD d i 0)) (within-true 0 n i (omega arith) (omega arith)) ∙ ap f (omega arith))
-
 -- ---- rows
 -- d is d₀ with r of the rows written
 pub record Writing (d₀ : List ℕ) (stride x y w rows : ℕ) (f : ℕ → ℕ → ℕ) (d : List ℕ) (r : ℕ) : Type 0 where
@@ -215,20 +209,3 @@ written-look d s x y w rows f e q m hm h b c eb ec =
     ap (λ (l : List ℕ). getD l (q * s + m) 0) e
     ∙ getD-written d s x y w rows f (q * s + m) h
     ∙ rw (digits-div q hm, digits-mod q hm, eb, ec) refl
-
--- in it
-pub written-in : (d : List ℕ) {d′ : List ℕ} (s x y w rows : ℕ) (f : ℕ → ℕ → ℕ) → d′ ≡ written d s x y w rows f → x + w ≤ s → (r c i : ℕ) → r < rows → c < w
-    → i ≡ (y + r) * s + (x + c) → i < length d → getD d′ i 0 ≡ f r c
-written-in d {d′} s x y w rows f e across r c i hr hc ei h =
-    ap (λ (k : ℕ). getD d′ k 0) ei
-    ∙ written-look d s x y w rows f e (y + r) (x + c) (omega arith) (omega arith) true true
-    (within-true y rows (y + r) (omega arith) (omega arith)) (within-true x w (x + c) (omega arith) (omega arith))
-    ∙ ap₂ f (omega arith) (omega arith)
-
--- and above or below it
-pub written-off : (d : List ℕ) {d′ : List ℕ} (s x y w rows : ℕ) (f : ℕ → ℕ → ℕ) → d′ ≡ written d s x y w rows f → (q m i : ℕ) → m < s → i ≡ q * s + m → i < length d
-    → (y ≤ q → q < y + rows → ⊥) → getD d′ i 0 ≡ getD d i 0
-written-off d {d′} s x y w rows f e q m i hm ei h out =
-    ap (λ (k : ℕ). getD d′ k 0) ei
-    ∙ written-look d s x y w rows f e q m hm (omega arith) false (within x w m) (within-false y rows q out) refl
-    ∙ ap (λ (k : ℕ). getD d k 0) (sym ei)
