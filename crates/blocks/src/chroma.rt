@@ -19,7 +19,7 @@ use rfc6386::{FilterSet, Mv};
 use sixteens::strips::filter_strips;
 use steps::rect::{Spot, Window, copy_rect};
 
-#[derive(Drop)]
+#[derive(Clone, Copy)]
 pub struct Chroma {
     pub u: [u8; 64],
     pub v: [u8; 64],
@@ -27,7 +27,7 @@ pub struct Chroma {
 
 // Two strips of eight rows, each on its own.
 fn apart(strips: &[u8; 128]) -> Chroma
-    ensures* { λ r. ⌜ r ≡ record { u = raster 8 8 (λ r c. get_or strips.now (0 + r * 16 + c) 0); v = raster 8 8 (λ r c. get_or strips.now (8 + r * 16 + c) 0) } ⌝ }
+    ensures { result ≡ record { u = raster 8 8 (λ r c. get_or strips.now (0 + r * 16 + c) 0); v = raster 8 8 (λ r c. get_or strips.now (8 + r * 16 + c) 0) } }
 {
     let mut u = [0u8; 64];
     let mut v = [0u8; 64];
@@ -54,7 +54,7 @@ pub fn blocks_of_8(
     requires accepted { Accepted u.now u_at }
     requires accepted_2 { Accepted v.now v_at }
     requires alike { Alike u_at v_at }
-    ensures value { result ≡ record { u = picture.block 8 set (picture.image (plane_at u.entry.now u_at)) u_at.x u_at.y mv; v = picture.block 8 set (picture.image (plane_at v.now v_at)) v_at.x v_at.y mv } }
+    ensures value { result ≡ record { u = picture.block 8 set (picture.image (plane_at u.now u_at)) u_at.x u_at.y mv; v = picture.block 8 set (picture.image (plane_at v.now v_at)) v_at.x v_at.y mv } }
     ensures all_after { all.new ≡ block_takes 8 set (plane_at u.now u_at) u_at.x u_at.y mv + block_takes 8 set (plane_at v.now v_at) v_at.x v_at.y mv }
 {
     if whole_pixel_fraction_is_zero(mv) {

@@ -1,4 +1,6 @@
 // Squares of a plane: the fetches, and blocks of 4, 8 and 16 samples a side that are fetched and filtered.
+#![tactic(auto)]
+
 pub mod block;
 pub mod chroma;
 mod fetch;

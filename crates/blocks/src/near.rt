@@ -8,7 +8,7 @@ use crate::square::{inside, origin};
 use rfc6386::Mv;
 
 // Whether it does, from which column and row on, and how many samples are then fetched.
-#[derive(Drop)]
+#[derive(Clone, Copy)]
 pub struct Found {
     pub near: bool,
     pub x: usize,

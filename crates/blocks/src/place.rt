@@ -5,7 +5,7 @@ ghost use Rattle.rfc6386.specs.Laws.Refusals.{Sized};
 use rfc6386::Sizes;
 
 // A plane's stride and size, and the first sample of a block in it.
-#[derive(Drop)]
+#[derive(Clone, Copy)]
 pub struct Place {
     pub stride: usize,
     pub w: usize,

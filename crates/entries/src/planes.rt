@@ -7,7 +7,7 @@ ghost use Rattle.rfc6386.specs.Report.{whole_report, whole_pixel_report, split_r
 use rfc6386::{FilterSet, Mv, Report, Sizes};
 
 // The planes of one reference picture, with their strides and the picture's size in macroblocks.
-#[derive(Drop)]
+#[derive(Clone, Copy)]
 pub struct ReferencePlanes<'a> {
     pub y: &'a [u8],
     pub u: &'a [u8],

@@ -7,7 +7,7 @@ use numbers::VECTORS;
 use rfc6386::Mv;
 
 // A list as sixteen vectors, and 0; or zeros, and 6.
-#[derive(Drop)]
+#[derive(Clone, Copy)]
 pub struct MvList {
     pub number: u32,
     pub mvs: [Mv; 16],

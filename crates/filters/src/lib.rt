@@ -1,4 +1,6 @@
 // One filter step, and the filters over halos, as in the Rust. No function asks anything of its caller.
+#![tactic(auto)]
+
 mod halos;
 pub mod sided;
 

@@ -1,5 +1,7 @@
 // Replays answers of the Rust that was ported: finished macroblocks, of coefficients and of quantised levels that it dequantised first. They stand in
 // data/finished.bin, whose form tests/oracle/finished_tape.rs describes. It was made as that of rust_answers is, by the same command.
+#![tactic(auto)]
+
 mod calls;
 mod records;
 

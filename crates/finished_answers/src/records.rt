@@ -6,7 +6,7 @@ use shims::sums::{check_sum, long};
 use std::num::{wrapping_add_u64, wrapping_add_usize};
 
 // How many answers the calls of each kind were held to, and how many differ.
-#[derive(Drop)]
+#[derive(Clone, Copy)]
 pub struct Tally {
     pub replayed: [u64; 6],
     pub differ: [u64; 6],

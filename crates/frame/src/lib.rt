@@ -1,4 +1,6 @@
 // A whole frame predicted at once, into planes that are lent for it.
+#![tactic(auto)]
+
 mod macroblocks;
 mod numbered;
 mod orders;
@@ -8,7 +10,7 @@ pub use predict::predict_frame;
 use rfc6386::{FilterSet, Sizes};
 
 // From one row to the next in the planes that are written.
-#[derive(Drop)]
+#[derive(Clone, Copy)]
 pub struct Strides {
     pub y: usize,
     pub u: usize,
@@ -16,7 +18,7 @@ pub struct Strides {
 }
 
 // How a frame is predicted: the sizes of the references, which are its own, the strides of what is written, table and flag.
-#[derive(Drop)]
+#[derive(Clone, Copy)]
 pub struct Frame {
     pub sizes: Sizes,
     pub strides: Strides,

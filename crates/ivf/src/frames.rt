@@ -5,7 +5,7 @@ ghost use Rattle.ivf.specs.Inner.{complete_length, Passed, Passes};
 use crate::bytes::read4;
 
 // Where some frames of a file end, and how many they are.
-#[derive(Drop)]
+#[derive(Clone, Copy)]
 pub struct Frames {
     pub end: usize,
     pub count: usize,

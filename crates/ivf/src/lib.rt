@@ -1,11 +1,13 @@
 // IVF recordings: a cut file is mended. Its complete frames are kept, what follows them is dropped, and the count in its header is set.
+#![tactic(auto)]
+
 mod bytes;
 mod frames;
 pub mod mend;
 mod output;
 
 // What mending a file reports. The three numbers after the first are 0 where the call refuses.
-#[derive(Drop)]
+#[derive(Clone, Copy)]
 pub struct Mended {
     pub number: u32,
     pub old_count: u64,

@@ -1,4 +1,5 @@
 // The numbers by which calls refuse; 0 is done. README says when each is given, and the definitions say exactly.
+#![tactic(auto)]
 
 // no columns or rows, or too many
 pub const SIZE: u32 = 1;

@@ -12,7 +12,7 @@ use refusals::{or_else, room_refusal};
 use rfc6386::{Clips, FilterSet, Mv, Report, Sizes};
 
 // What a call says that is lent an output: its number, how many samples it fetched, and how many of its own were clipped.
-#[derive(Drop)]
+#[derive(Clone, Copy)]
 pub struct Ended {
     pub number: u32,
     pub fetched: u64,

@@ -1,5 +1,7 @@
 // VP8 inter prediction of a macroblock: whole, at whole pixels, split and merging. No function that is named below asks anything of its
 // caller; those that `quarters` takes out of the public modules ask that the macroblock was not refused.
+#![tactic(auto)]
+
 pub mod predict;
 pub mod split;
 mod totals;

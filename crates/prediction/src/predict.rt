@@ -165,7 +165,7 @@ pub fn predict_inter_mb_whole_pixel(
 }
 
 // A split macroblock but for its luma: where that stands, and the chroma samples.
-#[derive(Drop)]
+#[derive(Clone, Copy)]
 pub struct Rest {
     pub luma_at: Place,
     pub chroma: Chroma,

@@ -37,8 +37,8 @@ pub fn split_luma(
     all: &mut u64,
 ) -> [u8; 256]
     requires { Starts (plane_at plane.now at) at.x at.y 16 }
-    ensures* r_value { λ r. ⌜ r ≡ picture.blockBy 16 set (picture.image (plane_at plane.now at)) at.x at.y (λ r c. vector.lumaVector (vector.fullPixel lower) (vector.sent mvs (macroblock.subblock r c))) ⌝ }
-    ensures all_after { all.new ≡ tiles_take 4 set (plane_at plane.now at) at.x at.y (λ b. vector.lumaVector (vector.fullPixel lower) (vector.sent mvs b)) }
+    ensures value { result ≡ picture.block_by 16 set (picture.image (plane_at plane.now at)) at.x at.y (λ r c. vector.luma_vector (vector.lowering_of lower) (vector.sent mvs (macroblock.subblock r c))) }
+    ensures all_after { all.new ≡ tiles_take 4 set (plane_at plane.now at) at.x at.y (λ b. vector.luma_vector (vector.lowering_of lower) (vector.sent mvs b)) }
 {
     let mut out = [0u8; 256];
     let mut total: u64 = 0;
@@ -74,7 +74,7 @@ pub fn split_chroma(
     requires starts { Starts (plane_at u.now u_at) u_at.x u_at.y 8 }
     requires starts_2 { Starts (plane_at v.now v_at) v_at.x v_at.y 8 }
     requires alike { Alike u_at v_at }
-    ensures* r_value { λ r. ⌜ r ≡ record { u = picture.blockBy 8 set (picture.image (plane_at u.entry.now u_at)) u_at.x u_at.y (λ r c. vector.sent mvs (macroblock.quarter r c)); v = picture.blockBy 8 set (picture.image (plane_at v.now v_at)) v_at.x v_at.y (λ r c. vector.sent mvs (macroblock.quarter r c)) } ⌝ }
+    ensures value { result ≡ record { u = picture.block_by 8 set (picture.image (plane_at u.now u_at)) u_at.x u_at.y (λ r c. vector.sent mvs (macroblock.quarter r c)); v = picture.block_by 8 set (picture.image (plane_at v.now v_at)) v_at.x v_at.y (λ r c. vector.sent mvs (macroblock.quarter r c)) } }
     ensures all_after { all.new ≡ tiles_take 2 set (plane_at u.now u_at) u_at.x u_at.y (vector.sent mvs) + tiles_take 2 set (plane_at v.now v_at) v_at.x v_at.y (vector.sent mvs) }
 {
     let mut u_out = [0u8; 64];

@@ -4,7 +4,7 @@ ghost use Rattle.prediction.specs.Totals.{added};
 
 use numbers::TOTALS;
 
-#[derive(Drop)]
+#[derive(Clone, Copy)]
 pub struct Totals {
     pub number: u32,
     pub low: u64,

@@ -38,7 +38,7 @@ fn index(base: i32, delta: i32) -> usize
 
 fn step(steps: &[u16], base: i32, delta: i32) -> u16
     requires { length steps.now ≡ 128 }
-    ensures { result ≡ defined.stepAt steps.now base delta }
+    ensures { result ≡ defined.step_at steps.now base delta }
 {
     let i = index(base, delta);
     steps[i]
@@ -46,7 +46,7 @@ fn step(steps: &[u16], base: i32, delta: i32) -> u16
 
 fn y2_ac_of(s: u16) -> u16
     requires { s ≤ 284 }
-    ensures { result ≡ defined.y2AcOf s }
+    ensures { result ≡ defined.y2_ac_of s }
 {
     let scaled = s * 155 / 100;
     if scaled < 8 {
@@ -56,7 +56,7 @@ fn y2_ac_of(s: u16) -> u16
 }
 
 fn uv_dc_of(s: u16) -> u16
-    ensures { result ≡ defined.uvDcOf s }
+    ensures { result ≡ defined.uv_dc_of s }
 {
     if s > 132 {
         return 132;
@@ -65,7 +65,7 @@ fn uv_dc_of(s: u16) -> u16
 }
 
 pub fn factors_of(q: QuantIndices) -> Factors
-    ensures { result ≡ defined.factorsOf q }
+    ensures { result ≡ defined.factors_of q }
 {
     let dc = DC_STEPS;
     let ac = AC_STEPS;

@@ -1,5 +1,7 @@
 // Split prediction that merges its luma by quarters: a square whose vectors are all equal is predicted in one go, and of any other each
 // quarter follows the same rule, down to side 4. Vectors are compared as they were sent.
+#![tactic(auto)]
+
 ghost use Rattle.std.specs.Prelude.{◌≡◌, true, false, ◌↔◌, ℕ, ◌+◌, ◌*◌, ◌/◌, ◌%◌, ◌≤◌, ◌<◌, length};
 ghost use Rattle.rfc6386.specs.Vector as vector;
 ghost use Rattle.rfc6386.specs.Picture as picture;
@@ -68,8 +70,8 @@ fn luma_square(
     requires starts { Starts (plane_at plane.now at) at.x at.y 16 }
     requires square { Square x y side }
     requires out_len { length out.old ≡ 256 }
-    ensures out_after { out.new ≡ part (picture.blockBy 16 set (picture.image (plane_at plane.now at)) at.x at.y (λ r c. vector.lumaVector (vector.fullPixel lower) (vector.sent mvs (macroblock.subblock r c)))) out.old x y side }
-    ensures value { result ≡ square_takes set (vector.fullPixel lower) (plane_at plane.now at) at.x at.y mvs x y side }
+    ensures out_after { out.new ≡ part (picture.block_by 16 set (picture.image (plane_at plane.now at)) at.x at.y (λ r c. vector.luma_vector (vector.lowering_of lower) (vector.sent mvs (macroblock.subblock r c)))) out.old x y side }
+    ensures value { result ≡ square_takes set (vector.lowering_of lower) (plane_at plane.now at) at.x at.y mvs x y side }
 {
     if one_vector(mvs, x, y, side) {
         let mv = luma_vector(mvs[y / 4 * 4 + x / 4], lower);
@@ -108,8 +110,8 @@ fn quarters_luma(
     all: &mut u64,
 ) -> [u8; 256]
     requires { Starts (plane_at plane.now at) at.x at.y 16 }
-    ensures* r_value { λ r. ⌜ r ≡ picture.blockBy 16 set (picture.image (plane_at plane.now at)) at.x at.y (λ r c. vector.lumaVector (vector.fullPixel lower) (vector.sent mvs (macroblock.subblock r c))) ⌝ }
-    ensures all_after { all.new ≡ square_takes set (vector.fullPixel lower) (plane_at plane.now at) at.x at.y mvs 0 0 16 }
+    ensures value { result ≡ picture.block_by 16 set (picture.image (plane_at plane.now at)) at.x at.y (λ r c. vector.luma_vector (vector.lowering_of lower) (vector.sent mvs (macroblock.subblock r c))) }
+    ensures all_after { all.new ≡ square_takes set (vector.lowering_of lower) (plane_at plane.now at) at.x at.y mvs 0 0 16 }
 {
     if !merges(mvs) {
         return split_luma(plane, at, mvs, lower, set, all);
@@ -131,7 +133,7 @@ pub fn predict_quarters(
     full_pixel: bool,
     set: FilterSet,
 ) -> Report
-    ensures { result ≡ report.quartersReport set (vector.fullPixel full_pixel) (macroblock.lent y.now u.now v.now sizes) mb_col mb_row split_luma_mvs }
+    ensures { result ≡ report.quarters_report set (vector.lowering_of full_pixel) (macroblock.lent y.now u.now v.now sizes) mb_col mb_row split_luma_mvs }
 {
     let number = refusal(y, u, v, sizes, mb_col, mb_row);
     if number != 0 {

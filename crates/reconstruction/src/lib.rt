@@ -1,5 +1,7 @@
 // The decoded macroblock: a prediction of `prediction` with the residue added, on plain slices. The coefficients, or the quantised levels that stand
 // for them, are lent as one list, 400 of them or 384: as `threshowl` takes them from C.
+#![tactic(auto)]
+
 mod finish;
 mod from_levels;
 mod reconstruct;

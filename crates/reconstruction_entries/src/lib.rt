@@ -1,5 +1,7 @@
 // The entries for Rattle that finish a macroblock: over the record that holds the three lent planes, as in the Rust. Each takes the record apart
 // and calls the function of the same name on plain slices.
+#![tactic(auto)]
+
 ghost use Rattle.std.specs.Prelude.{◌≡◌};
 ghost use Rattle.rfc6386.specs.Vector.{lowering_of};
 ghost use Rattle.rfc6386.specs.Macroblock.{lent, whole, split, whole_pixel};

@@ -1,4 +1,6 @@
 // Every test by which prediction refuses: of one plane, of a macroblock, and of what comes beside the planes.
+#![tactic(auto)]
+
 mod codes;
 mod macroblocks;
 mod planes;

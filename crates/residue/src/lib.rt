@@ -1,5 +1,7 @@
 // The residue of a macroblock (RFC 6386, section 14): the two inverse transforms, their short paths, the sum with the prediction, and which
 // coefficients are refused. What it offers is for `reconstruction` and the boundary to C, which ask first.
+#![tactic(auto)]
+
 mod adding;
 mod blocks;
 mod domain;

@@ -4,7 +4,7 @@ ghost use Rattle.residue.specs.Transform.{wht, dct, inverse_wht, inverse_dct};
 ghost use Rattle.residue.specs.Inner.{points, Small, column, row, Bounded};
 
 // The four numbers that a transform of four gives.
-#[derive(Drop)]
+#[derive(Clone, Copy)]
 pub struct Four {
     pub p0: i32,
     pub p1: i32,
@@ -13,7 +13,7 @@ pub struct Four {
 }
 
 // Four of the sixteen numbers of a block.
-#[derive(Drop)]
+#[derive(Clone, Copy)]
 pub struct Row {
     pub p0: i16,
     pub p1: i16,

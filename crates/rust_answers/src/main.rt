@@ -2,6 +2,8 @@
 // data/answers.bin, whose form tests/oracle/recorder.rs describes. It was made from the Rust at commit 6707c95fae, scalar, by
 // `tests/oracle/record PATH-TO-RUST-SRC crates/rust_answers/data/answers.bin crates/finished_answers/data/finished.bin`, which makes the same
 // files again.
+#![tactic(auto)]
+
 mod alone;
 mod ending;
 mod macroblocks;

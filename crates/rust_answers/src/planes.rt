@@ -4,7 +4,7 @@ use shims::bytes::{byte_at, fill, mv_of, part, word};
 use shims::planes::{shim_fetch, shim_filter_block, shim_filter_block_into};
 
 // Where a plane's bytes start in the file, how many they are, and its sizes.
-#[derive(Drop)]
+#[derive(Clone, Copy)]
 pub struct Plane {
     pub from: usize,
     pub len: usize,

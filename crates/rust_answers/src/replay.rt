@@ -7,7 +7,7 @@ use shims::bytes::{byte_at, part, word};
 use std::num::wrapping_add_usize;
 
 // Where the next record starts, how many came before it, the planes that stand, and what was found.
-#[derive(Drop)]
+#[derive(Clone, Copy)]
 pub struct State {
     pub at: usize,
     pub records: usize,

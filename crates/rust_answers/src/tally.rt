@@ -8,7 +8,7 @@ pub const MERGING: usize = 27;
 
 pub const SPLIT_BY_VERSION: usize = 28;
 
-#[derive(Drop)]
+#[derive(Clone, Copy)]
 pub struct Tally {
     pub replayed: [u64; 29],
     pub differ: [u64; 29],

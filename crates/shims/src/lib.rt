@@ -3,6 +3,8 @@
 // rust_answers and finished_answers replay. A call writes what the function
 // returned, zeros where that refuses, and gives its number. It gives 255 and writes nothing where a length is not the one due or a code
 // names no function.
+#![tactic(auto)]
+
 pub mod bytes;
 pub mod codes;
 pub mod filtering;

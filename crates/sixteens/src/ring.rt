@@ -17,7 +17,7 @@ use steps::step::{Step, counted};
 use steps::taps::{Taps, taps_of};
 
 // Where the six rows of a window stand, the oldest first.
-#[derive(Drop)]
+#[derive(Clone, Copy)]
 pub struct Ring {
     pub a: usize,
     pub b: usize,

@@ -1,4 +1,6 @@
 // What the filters are made of: the tap tables, one step, lines of steps, and copies of rows and rectangles.
+#![tactic(auto)]
+
 pub mod lines;
 pub mod rect;
 pub mod step;

@@ -4,14 +4,14 @@ ghost use Rattle.rfc6386.specs.Raster.{written};
 ghost use Rattle.steps.specs.Rows.{laid, Room, Held};
 
 // Where rows are read: the first from `at` on, each `pitch` after the one before.
-#[derive(Drop)]
+#[derive(Clone, Copy)]
 pub struct Window {
     pub at: usize,
     pub pitch: usize,
 }
 
 // Where rows are written: from column x, row y on, in rows of `stride`.
-#[derive(Drop)]
+#[derive(Clone, Copy)]
 pub struct Spot {
     pub stride: usize,
     pub x: usize,

@@ -68,7 +68,7 @@ pub fn weigh_at(src: &[u8], i: usize, gap: usize, t: Taps) -> u16
 
 // ---- the last step of a sample
 // What it leaves, and its part of a tally.
-#[derive(Drop)]
+#[derive(Clone, Copy)]
 pub struct Step {
     pub sample: u8,
     pub part: u16,

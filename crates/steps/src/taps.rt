@@ -8,7 +8,7 @@ use crate::tables::{BILINEAR_FILTERS, SIXTAP_FILTERS};
 use rfc6386::FilterSet;
 
 // The sizes of six taps. Those of b and e, at places -1 and 2, are subtracted.
-#[derive(Drop)]
+#[derive(Clone, Copy)]
 pub struct Taps {
     pub a: u8,
     pub b: u8,

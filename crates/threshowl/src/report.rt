@@ -16,7 +16,7 @@ use rfc6386::{Mv, Sizes};
 use vector_bytes::mvs_of_bytes;
 
 fn kind_refusal(kind: u8) -> u32
-    ensures { result ≡ boundary.kindRefusal kind }
+    ensures { result ≡ boundary.kind_refusal kind }
 {
     if kind > 3 {
         return ORDERS;

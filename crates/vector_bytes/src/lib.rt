@@ -1,4 +1,6 @@
 // Vectors as bytes, as C hands them over.
+#![tactic(auto)]
+
 ghost use Rattle.std.specs.Prelude.{◌≡◌};
 ghost use Rattle.vector_bytes.specs.Bytes.{int16, vectors_of};
 

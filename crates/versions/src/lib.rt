@@ -1,5 +1,7 @@
 // What a frame's version number asks for: the tap table and the full-pixel flag; and prediction with them, which refuses the reserved
 // numbers. What full-pixel lowers is as in the Rust, luma and chroma, or by the standard's rule, chroma alone.
+#![tactic(auto)]
+
 ghost use Rattle.std.specs.Prelude.{◌≡◌};
 ghost use Rattle.rfc6386.specs.Filter.{version_set, version_profile};
 ghost use Rattle.rfc6386.specs.Macroblock.{lent};

@@ -4,7 +4,7 @@ ghost use Rattle.y4m_frames.specs.Frames.{is_size, frame_length, padded_samples}
 ghost use Rattle.y4m_frames.specs.Inner.{Sound, SizesAre};
 
 // A plane's sizes in samples: in a file, and padded.
-#[derive(Drop)]
+#[derive(Clone, Copy)]
 pub struct Plane {
     pub width: usize,
     pub height: usize,
@@ -12,7 +12,7 @@ pub struct Plane {
     pub high: usize,
 }
 
-#[derive(Drop)]
+#[derive(Clone, Copy)]
 pub struct Sizes {
     pub luma: Plane,
     pub chroma: Plane,

@@ -9,7 +9,7 @@ use crate::words::same;
 use numbers::HEADER;
 
 // What the parameters tell so far. A size of 0 is not told yet.
-#[derive(Drop)]
+#[derive(Clone, Copy)]
 pub struct Told {
     pub good: bool,
     pub width: u64,
