@@ -15,16 +15,16 @@ use Rattle.rfc6386.specs.Block.{shown, counted, fractions_refusal, filtered4, fi
 use Rattle.rfc6386.specs.Macroblock.{Reference, refusal, whole_samples, split_samples, pixel_samples, no_samples, answered, fraction_left, whole, split, whole_pixel}
 use Rattle.rfc6386.specs.Channel.{Channel, side, plane_in, samples_in, whole_vector, tile_vector}
 use Rattle.rfc6386.specs.Channel.Channel.{luma, chroma_u, chroma_v}
-use Rattle.rfc6386.specs.Laws.Raster.{raster-plain, written_ext}
-use Rattle.rfc6386.specs.Laws.Vectors.{clamped-is}
-use Rattle.rfc6386.specs.Laws.Steps.{Between}
-use Rattle.rfc6386.specs.Laws.Samples.{Bytes, predicted_flat, least4, most4, bilinear_bound, Agree, image_agree}
-use Rattle.rfc6386.specs.Laws.Refusals.{if-zero, or_else-zero, or_else_next, done, plane_accepts, accepts}
-use Rattle.rfc6386.specs.Laws.Blocks.{AllBytes, image_bytes, block_flat, square_flat, block_at, pixel_at}
-use Rattle.rfc6386.specs.Laws.Channels.{by_channels, some_places, channel_bytes, whole_channel, split_channel, pixel_channel}
-use Rattle.rfc6386.specs.Laws.Fetched.{as_pixels4, as_pixels8, as_pixels16, as_halo9, as_halo13, as_halo21, pixels4_is, pixels8_is, pixels16_is, halo9_is, halo13_is, halo21_is}
-use Rattle.rfc6386.specs.Laws.Halos.{halo_flat, halo_between, list_image}
-use Rattle.rfc6386.specs.Laws.Clipping.{block_clips_flat, halo_clips_flat}
+use Rattle.rfc6386.proofs.Laws.Raster.{raster-plain, written_ext}
+use Rattle.rfc6386.proofs.Laws.Vectors.{clamped-is}
+use Rattle.rfc6386.proofs.Laws.Steps.{Between}
+use Rattle.rfc6386.proofs.Laws.Samples.{Bytes, predicted_flat, least4, most4, bilinear_bound, Agree, image_agree}
+use Rattle.rfc6386.proofs.Laws.Refusals.{if-zero, or_else-zero, or_else_next, done, plane_accepts, accepts}
+use Rattle.rfc6386.proofs.Laws.Blocks.{AllBytes, image_bytes, block_flat, square_flat, block_at, pixel_at}
+use Rattle.rfc6386.proofs.Laws.Channels.{by_channels, some_places, channel_bytes, whole_channel, split_channel, pixel_channel}
+use Rattle.rfc6386.proofs.Laws.Fetched.{as_pixels4, as_pixels8, as_pixels16, as_halo9, as_halo13, as_halo21, pixels4_is, pixels8_is, pixels16_is, halo9_is, halo13_is, halo21_is}
+use Rattle.rfc6386.proofs.Laws.Halos.{halo_flat, halo_between, list_image}
+use Rattle.rfc6386.proofs.Laws.Clipping.{block_clips_flat, halo_clips_flat}
 use Rattle.rfc6386.specs.declared.Mv.{Mv}
 use Rattle.rfc6386.specs.declared.FilterSet.{FilterSet}
 use Rattle.rfc6386.specs.declared.FilterSet.TheVariants.{Bilinear}

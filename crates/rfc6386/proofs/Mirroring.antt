@@ -15,12 +15,13 @@ use Rattle.rfc6386.specs.Channel.{Channel, side, plane_in, samples_in, whole_vec
 use Rattle.rfc6386.specs.Channel.Channel.{luma, chroma_u, chroma_v}
 use Rattle.rfc6386.specs.Mirror.{Mirror, left_to_right, top_to_bottom, by_half, turn, negated, turnable, off, mirrored_bytes, mirrored_reference, mirrored_col, mirrored_row, mirrored_vector, mirrored_vectors, Turnable, mirrored_block, mirrored_mb, mirrored_prediction}
 use Rattle.rfc6386.specs.Telling.{sixteen}
-use Rattle.rfc6386.specs.Seeing.{columns_of, three_accepted, columns-image}
-use Rattle.rfc6386.specs.Carried.{Place, lent_at, Word, OfTypes, WholeGives, SplitGives}
-use Rattle.rfc6386.specs.Laws.Raster.{get_d-raster}
-use Rattle.rfc6386.specs.Laws.Refusals.{Fits, Accepts, accepts, zero_for}
-use Rattle.rfc6386.specs.Laws.Channels.{by_channels, some_places, whole_channel, split_channel, whole_sample, split_sample}
-use Rattle.rfc6386.specs.Laws.Mirroring.{Opposite, col-opposite, row-opposite, opposite_inside, opposite_samples, length_mirrored, mirrored_bytes_lem, small, mirrored_plane, fits_mirrored, image_mirrored, mirrored-again, block_mirror, whole-vector, tile-vector}
+use Rattle.rfc6386.proofs.Seeing.{columns_of, three_accepted, columns-image}
+use Rattle.rfc6386.proofs.Carried.{Place, lent_at, Word, OfTypes, WholeGives, SplitGives}
+use Rattle.rfc6386.proofs.Laws.Raster.{get_d-raster}
+use Rattle.rfc6386.specs.Refusal.{Fits}
+use Rattle.rfc6386.proofs.Laws.Refusals.{Accepts, accepts, zero_for}
+use Rattle.rfc6386.proofs.Laws.Channels.{by_channels, some_places, whole_channel, split_channel, whole_sample, split_sample}
+use Rattle.rfc6386.proofs.Laws.Mirroring.{Opposite, col-opposite, row-opposite, opposite_inside, opposite_samples, length_mirrored, mirrored_bytes_lem, small, mirrored_plane, fits_mirrored, image_mirrored, mirrored-again, block_mirror, whole-vector, tile-vector}
 use Rattle.rfc6386.specs.declared.Mv.{Mv}
 use Rattle.rfc6386.specs.declared.FilterSet.{FilterSet}
 use Rattle.rfc6386.specs.declared.ReconstructedMb.{ReconstructedMb}

@@ -16,14 +16,14 @@ use Rattle.rfc6386.specs.Macroblock.{Reference}
 use Rattle.rfc6386.specs.Channel.{Channel, side, whole_vector, tile_vector}
 use Rattle.rfc6386.specs.Channel.Channel.{luma, chroma_u, chroma_v}
 use Rattle.rfc6386.specs.Mirror.{Mirror, turn, negated, least_turnable, most_turnable, turnable, off, mirrored_bytes, mirrored_col, mirrored_row, mirrored_vector, mirrored_subblock, mirrored_vectors, Turnable, mirrored_block}
-use Rattle.rfc6386.specs.Laws.Tests.{and-true}
-use Rattle.rfc6386.specs.Laws.Vectors.{vector, near, doubled_exactly, clamped-is, fraction-under, fraction-is}
-use Rattle.rfc6386.specs.Laws.Steps.{same, step_one, step_turned}
-use Rattle.rfc6386.specs.Laws.Samples.{place_two, six-same}
-use Rattle.rfc6386.specs.Laws.Raster.{get_d-tab, tab_bytes, raster_ext, length-written, get_d-written, within_is, written_sample}
+use Rattle.rfc6386.proofs.Laws.Tests.{and-true}
+use Rattle.rfc6386.proofs.Laws.Vectors.{vector, near, doubled_exactly, clamped-is, fraction-under, fraction-is}
+use Rattle.rfc6386.proofs.Laws.Steps.{same, step_one, step_turned}
+use Rattle.rfc6386.proofs.Laws.Samples.{place_two, six-same}
+use Rattle.rfc6386.proofs.Laws.Raster.{get_d-tab, tab_bytes, raster_ext, length-written, get_d-written, within_is, written_sample}
 use Rattle.rfc6386.specs.Raster.{within, written}
-use Rattle.rfc6386.specs.Laws.Refusals.{Fits}
-use Rattle.rfc6386.specs.Laws.Blocks.{block_at}
+use Rattle.rfc6386.specs.Refusal.{Fits}
+use Rattle.rfc6386.proofs.Laws.Blocks.{block_at}
 use Rattle.rfc6386.specs.declared.Mv.{Mv}
 use Rattle.rfc6386.specs.declared.FilterSet.{FilterSet}
 

@@ -13,13 +13,13 @@ use Rattle.rfc6386.specs.Macroblock.{Reference, refusal, answered, whole, split}
 use Rattle.rfc6386.specs.Channel.{Channel, side, plane_in, samples_in, whole_vector, tile_vector}
 use Rattle.rfc6386.specs.Channel.Channel.{luma}
 use Rattle.rfc6386.specs.Seen.{first_seen, last_seen, WholeSame, TileSame, SplitSame, Strip, BlankedIn, WholeMisses, TileMisses}
-use Rattle.rfc6386.specs.Carried.{Place, lent_at, WholeGives, SplitGives}
-use Rattle.rfc6386.specs.Laws.Raster.{length-raster, get_d-raster}
-use Rattle.rfc6386.specs.Laws.Vectors.{clamped-is}
-use Rattle.rfc6386.specs.Laws.Refusals.{accepts, zero_for}
-use Rattle.rfc6386.specs.Laws.Channels.{by_channels, some_places, whole_channel, split_channel, whole_sample, split_sample}
-use Rattle.rfc6386.specs.Laws.Outcomes.{answered-same}
-use Rattle.rfc6386.specs.Laws.Seeing.{block_seen, tile_seen, tiles_seen, strip_same}
+use Rattle.rfc6386.proofs.Carried.{Place, lent_at, WholeGives, SplitGives}
+use Rattle.rfc6386.proofs.Laws.Raster.{length-raster, get_d-raster}
+use Rattle.rfc6386.proofs.Laws.Vectors.{clamped-is}
+use Rattle.rfc6386.proofs.Laws.Refusals.{accepts, zero_for}
+use Rattle.rfc6386.proofs.Laws.Channels.{by_channels, some_places, whole_channel, split_channel, whole_sample, split_sample}
+use Rattle.rfc6386.proofs.Laws.Outcomes.{answered-same}
+use Rattle.rfc6386.proofs.Laws.Seeing.{block_seen, tile_seen, tiles_seen, strip_same}
 use Rattle.rfc6386.specs.declared.Mv.{Mv}
 use Rattle.rfc6386.specs.declared.FilterSet.{FilterSet}
 use Rattle.rfc6386.specs.declared.FilterSet.TheVariants.{Sixtap, Bilinear}

@@ -1,28 +1,28 @@
 -- How many samples are fetched, at least and at most: theorems of request K8. Assumes nothing.
 use Rattle.std.specs.Prelude.{◌≡◌, Bool, ◌&&◌, List, ◌++◌, eqb, ℤ, pos, ◌+ℤ◌, ◌*ℤ◌}
 use Rattle.std.proofs.Math.Path.{refl, ap, ap₂}
-use Rattle.std.proofs.Common.{sym, ◌∙◌, subst, le_of_eq, mul-le-mul}
+use Rattle.std.proofs.Common.{sym, ◌∙◌, le_of_eq}
 use Rattle.std.proofs.Math.Bool.{true, false, cond}
-use Prim.Native.Nat.{ℕ, zero, suc, ◌+◌, ◌*◌, ◌<◌, ◌≤◌}
+use Prim.Native.Nat.{ℕ, ◌+◌, ◌*◌, ◌<◌, ◌≤◌}
 use native.Mathlib.Omega.{arith}
 use Rattle.std.proofs.Math.ListN.{length, length-append}
 use Rattle.signed.specs.Int.{int, times, one_side}
 use Rattle.rfc6386.specs.Number.{floor_div}
-use Rattle.rfc6386.specs.Vector.{Lowering, lowering_of, whole_part, fraction, stored, whole_chroma, lowered, each, is_whole, quarter_average, luma_vector, chroma_vector, quarter_vector, zero_vector, sent, mergeable, One}
+use Rattle.rfc6386.specs.Vector.{Lowering, lowering_of, whole_part, fraction, stored, whole_chroma, lowered, each, is_whole, quarter_average, luma_vector, chroma_vector, quarter_vector, zero_vector, sent, One}
 use Rattle.rfc6386.specs.Picture.{Plane}
-use Rattle.rfc6386.specs.Macroblock.{Reference, plane_y, plane_u, plane_v, refusal, answered, whole, split}
+use Rattle.rfc6386.specs.Macroblock.{Reference, plane_y, plane_u, plane_v, split}
 use Rattle.rfc6386.specs.Clips.{no_clips}
 use Rattle.rfc6386.specs.Sums.{sum_to}
 use Rattle.rfc6386.specs.Fetched.{Coordinate, pixels_of, block_of, tiles_of}
-use Rattle.rfc6386.specs.Report.{whole_of, whole_pixel_of, split_chroma_of, split_of, is_one, merging_of, luma, quarters_of, split_clips, reported, whole_report, split_report, merging_report, quarters_report}
+use Rattle.rfc6386.specs.Report.{whole_of, whole_pixel_of, split_chroma_of, split_of, is_one, merging_of, luma, quarters_of, split_clips, reported, whole_report, split_report, merging_report}
 use Rattle.rfc6386.specs.Telling.{sixteen}
-use Rattle.rfc6386.specs.Merging.{merge_alike}
-use Rattle.rfc6386.specs.Clipping as clipping
-use Rattle.rfc6386.specs.Laws.Vectors.{part, fraction-is, fraction-under}
-use Rattle.rfc6386.specs.Laws.Sums.{sum_least, sum_le}
-use Rattle.rfc6386.specs.Laws.Refusals.{done, refused}
-use Rattle.rfc6386.specs.Laws.Merging.{BothInside, mergeable-true, sent_equal, quarter_equal, chroma_equal, quarter_alike}
-use Rattle.rfc6386.specs.Laws.Fetched.{cost, length-square, length-block, length_tiles, cost_least, cost_most, cost_eight, cost_sixteen, is_one_lem, luma_most, luma_some}
+use Rattle.rfc6386.proofs.Merging.{merge_alike}
+use Rattle.rfc6386.proofs.Clipping as clipping
+use Rattle.rfc6386.proofs.Laws.Vectors.{part, fraction-is, fraction-under}
+use Rattle.rfc6386.proofs.Laws.Sums.{sum_least, sum_le}
+use Rattle.rfc6386.proofs.Laws.Refusals.{done, refused}
+use Rattle.rfc6386.proofs.Laws.Merging.{mergeable-true, sent_equal, chroma_equal, quarter_alike}
+use Rattle.rfc6386.proofs.Laws.Fetched.{cost, length-square, length-block, length_tiles, cost_least, cost_most, cost_eight, cost_sixteen, is_one_lem, luma_most, luma_some}
 use Rattle.rfc6386.specs.declared.Mv.{Mv}
 use Rattle.rfc6386.specs.declared.FilterSet.{FilterSet}
 use Rattle.rfc6386.specs.declared.Prediction.{Prediction}

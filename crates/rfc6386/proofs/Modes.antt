@@ -16,12 +16,12 @@ use Rattle.rfc6386.specs.Version.{reserved_version, in_mode, whole_by_version, s
 use Rattle.rfc6386.specs.Channel.{plane_in}
 use Rattle.rfc6386.specs.Channel.Channel.{luma}
 use Rattle.rfc6386.specs.Telling.{sixteen}
-use Rattle.rfc6386.specs.Laws.Tests.{and-true}
-use Rattle.rfc6386.specs.Laws.Raster.{length-raster, get_d-raster}
-use Rattle.rfc6386.specs.Laws.Vectors.{vector, clamped-is, lowered-whole}
-use Rattle.rfc6386.specs.Laws.Refusals.{zero_for}
-use Rattle.rfc6386.specs.Laws.Blocks.{block_at}
-use Rattle.rfc6386.specs.Laws.Channels.{whole_sample, split_sample}
+use Rattle.rfc6386.proofs.Laws.Tests.{and-true}
+use Rattle.rfc6386.proofs.Laws.Raster.{length-raster, get_d-raster}
+use Rattle.rfc6386.proofs.Laws.Vectors.{vector, clamped-is, lowered-whole}
+use Rattle.rfc6386.proofs.Laws.Refusals.{zero_for}
+use Rattle.rfc6386.proofs.Laws.Blocks.{block_at}
+use Rattle.rfc6386.proofs.Laws.Channels.{whole_sample, split_sample}
 use Rattle.rfc6386.specs.declared.Mv.{Mv}
 use Rattle.rfc6386.specs.declared.FilterSet.TheVariants.{Bilinear}
 use Rattle.rfc6386.specs.declared.ReconstructedMb.{ReconstructedMb}

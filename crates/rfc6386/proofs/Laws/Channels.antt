@@ -9,8 +9,8 @@ use Rattle.rfc6386.specs.Picture.{image, predicted, block_by, block, pixels}
 use Rattle.rfc6386.specs.Macroblock.{Reference, refusal, whole_samples, split_samples, pixel_samples, no_samples, answered, whole, split}
 use Rattle.rfc6386.specs.Channel.{Channel, side, plane_in, samples_in, whole_vector, tile_vector}
 use Rattle.rfc6386.specs.Channel.Channel.{luma, chroma_u, chroma_v}
-use Rattle.rfc6386.specs.Laws.Refusals.{done}
-use Rattle.rfc6386.specs.Laws.Blocks.{AllBytes, block_at}
+use Rattle.rfc6386.proofs.Laws.Refusals.{done}
+use Rattle.rfc6386.proofs.Laws.Blocks.{AllBytes, block_at}
 use Rattle.rfc6386.specs.declared.Mv.{Mv}
 use Rattle.rfc6386.specs.declared.FilterSet.{FilterSet}
 use Rattle.rfc6386.specs.declared.ReconstructedMb.{ReconstructedMb}

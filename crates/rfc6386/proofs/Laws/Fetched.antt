@@ -1,5 +1,5 @@
 -- Laws of what is fetched: how long the lists are. Assumes nothing.
-use Rattle.std.specs.Prelude.{◌≡◌, Bool, true, false, cond, ◌&&◌, ◌↔◌, List, ◌∷◌, ◌++◌, map, get_or, ℤ, negsuc, ◌+ℤ◌, ◌-ℤ◌}
+use Rattle.std.specs.Prelude.{◌≡◌, Bool, true, false, cond, ◌&&◌, ◌↔◌, List, ◌∷◌, ◌++◌, map, ℤ, negsuc, ◌+ℤ◌, ◌-ℤ◌}
 use Rattle.std.proofs.Math.Path.{refl, ap}
 use Rattle.std.proofs.Common.{sym, ap₂, ◌∙◌, ⊎_elim, le_of_eq, mul-le-mul, not-suc-le-zero, eq-or-lt_of_le, mod-lt, div-lt_iff_lt-mul, le-leb}
 use Prim.Native.Nat.{ℕ, zero, suc, ◌+◌, ◌*◌, ◌/◌, ◌%◌, ◌^◌, ◌<◌, ◌≤◌}
@@ -9,7 +9,6 @@ use Rattle.std.proofs.Math.ListN.{length, length-append}
 use Rattle.std.proofs.Math.IntN.{pos}
 use Rattle.std.specs.Int.Signed.{le_z}
 use Rattle.signed.specs.Int.{le_z-true, int}
-use Rattle.rfc6386.specs.Number.{clamped}
 use Rattle.rfc6386.specs.Vector.{Lowering, whole_part, luma_vector, sent, is_whole, mergeable, One}
 use Rattle.rfc6386.specs.Raster.{tab, raster}
 use Rattle.rfc6386.specs.Sums.{sum_to}
@@ -20,11 +19,11 @@ use Rattle.rfc6386.specs.Macroblock.{subblock, no_samples, answered}
 use Rattle.rfc6386.specs.Fetched.{Coordinate, square_of, pixels_of, halo_of, block_of, joined, tiles_of}
 use Rattle.rfc6386.specs.Clips.{no_clips}
 use Rattle.rfc6386.specs.Report.{every, same_vector, is_one, one_in, luma, reported}
-use Rattle.rfc6386.specs.Laws.Raster.{length-tab, row_fits}
-use Rattle.rfc6386.specs.Laws.Sums.{sum_ext, sum_least}
-use Rattle.rfc6386.specs.Laws.Tests.{and-true}
-use Rattle.rfc6386.specs.Laws.Refusals.{done, refused, refused_is, done_is}
-use Rattle.rfc6386.specs.Laws.Vectors.{vector}
+use Rattle.rfc6386.proofs.Laws.Raster.{length-tab, row_fits}
+use Rattle.rfc6386.proofs.Laws.Sums.{sum_ext, sum_least}
+use Rattle.rfc6386.proofs.Laws.Tests.{and-true}
+use Rattle.rfc6386.proofs.Laws.Refusals.{done, refused, refused_is, done_is}
+use Rattle.rfc6386.proofs.Laws.Vectors.{vector}
 use Rattle.rfc6386.specs.declared.Mv.{Mv}
 use Rattle.rfc6386.specs.declared.ReconstructedMb.{ReconstructedMb}
 use Rattle.rfc6386.specs.declared.Clips.{Clips}

@@ -11,10 +11,10 @@ use Rattle.rfc6386.specs.Filter.{taps_of, step}
 use Rattle.rfc6386.specs.Picture.{Plane, Image, image, place, six, across, two_steps, filtered, predicted, block_by, block}
 use Rattle.rfc6386.specs.Seen.{before, after, first_seen, last_seen, Seen, SameSeen, Axis, on, Strip, first_in, last_in, Blanked, Misses}
 use Rattle.rfc6386.specs.Seen.Axis.{horizontal, vertical}
-use Rattle.rfc6386.specs.Laws.Raster.{raster_ext}
-use Rattle.rfc6386.specs.Laws.Vectors.{clamped-is, fraction-under}
-use Rattle.rfc6386.specs.Laws.Steps.{step_one, mixed, bilinear-step}
-use Rattle.rfc6386.specs.Laws.Samples.{place_two, six-same}
+use Rattle.rfc6386.proofs.Laws.Raster.{raster_ext}
+use Rattle.rfc6386.proofs.Laws.Vectors.{clamped-is, fraction-under}
+use Rattle.rfc6386.proofs.Laws.Steps.{step_one, mixed, bilinear-step}
+use Rattle.rfc6386.proofs.Laws.Samples.{place_two, six-same}
 use Rattle.rfc6386.specs.declared.Mv.{Mv}
 use Rattle.rfc6386.specs.declared.FilterSet.{FilterSet}
 use Rattle.rfc6386.specs.declared.FilterSet.TheVariants.{Sixtap, Bilinear}

@@ -10,10 +10,10 @@ use Rattle.rfc6386.specs.Clips.{clip_of, no_clips, both_clips, clips_by, block_c
 use Rattle.rfc6386.specs.Macroblock.{Reference, plane_y, plane_u, plane_v, subblock, quarter}
 use Rattle.rfc6386.specs.Report.{whole_clips, split_clips}
 use Rattle.rfc6386.specs.Telling.{sixteen}
-use Rattle.rfc6386.specs.Laws.Vectors.{part, fraction-is}
-use Rattle.rfc6386.specs.Laws.Blocks.{AllBytes, image_bytes}
-use Rattle.rfc6386.specs.Laws.Merging.{mergeable-true, sent_equal, chroma_equal, quarter_alike}
-use Rattle.rfc6386.specs.Laws.Clipping.{block_clips_le, block_clips_ext, block_clips_whole, block_clips_bilinear}
+use Rattle.rfc6386.proofs.Laws.Vectors.{part, fraction-is}
+use Rattle.rfc6386.proofs.Laws.Blocks.{AllBytes, image_bytes}
+use Rattle.rfc6386.proofs.Laws.Merging.{mergeable-true, sent_equal, chroma_equal, quarter_alike}
+use Rattle.rfc6386.proofs.Laws.Clipping.{block_clips_le, block_clips_ext, block_clips_whole, block_clips_bilinear}
 use Rattle.rfc6386.specs.declared.Mv.{Mv}
 use Rattle.rfc6386.specs.declared.FilterSet.{FilterSet}
 use Rattle.rfc6386.specs.declared.FilterSet.TheVariants.{Bilinear}

@@ -11,11 +11,11 @@ use Rattle.rfc6386.specs.Filter.{version_set}
 use Rattle.rfc6386.specs.Macroblock.{Reference, lent, refusal, answered, whole, split}
 use Rattle.rfc6386.specs.Version.{reserved_version, whole_by_version, split_by_version}
 use Rattle.rfc6386.specs.Telling.{sixteen, only_u, upper_lower, left_right, telling, telling_sample}
-use Rattle.rfc6386.specs.Merging.{merge_inside, merge_outside}
-use Rattle.rfc6386.specs.Laws.Raster.{length-raster}
-use Rattle.rfc6386.specs.Laws.Blocks.{AllBytes}
-use Rattle.rfc6386.specs.Laws.Versions.{version_lowering, whole_meant, split_meant, whole_reserved, split_reserved}
-use Rattle.rfc6386.specs.Laws.Merging.{only-bytes}
+use Rattle.rfc6386.proofs.Merging.{merge_inside, merge_outside}
+use Rattle.rfc6386.proofs.Laws.Raster.{length-raster}
+use Rattle.rfc6386.proofs.Laws.Blocks.{AllBytes}
+use Rattle.rfc6386.proofs.Laws.Versions.{version_lowering, whole_meant, split_meant, whole_reserved, split_reserved}
+use Rattle.rfc6386.proofs.Laws.Merging.{only-bytes}
 use Rattle.rfc6386.specs.declared.Mv.{Mv}
 use Rattle.rfc6386.specs.declared.FilterSet.{FilterSet}
 use Rattle.rfc6386.specs.declared.Sizes.{Sizes}

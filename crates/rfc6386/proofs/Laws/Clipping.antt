@@ -8,12 +8,13 @@ use Rattle.rfc6386.specs.Filter.{taps_of, rounded}
 use Rattle.rfc6386.specs.Picture.{Image, place, six, across, halo}
 use Rattle.rfc6386.specs.Sums.{sum_to, sum_rows}
 use Rattle.rfc6386.specs.Clips.{clip_of, step_clip, filtered_clip, predicted_clip, is_low, is_high, no_clips, totals, clips_by, block_clips, halo_clip, halo_clips}
-use Rattle.rfc6386.specs.Laws.Raster.{row_fits}
-use Rattle.rfc6386.specs.Laws.Sums.{sum-zero, rows_ext, rows_add, rows_le}
-use Rattle.rfc6386.specs.Laws.Vectors.{fraction-under}
-use Rattle.rfc6386.specs.Laws.Steps.{Sizes, signed, Is, plus_of, minus_of, sum_is, row_of, sizes_of, sizes6, bilinear-is, below, step_le}
-use Rattle.rfc6386.specs.Laws.Samples.{Bytes, place_two, six-same, six_flat}
-use Rattle.rfc6386.specs.Laws.Halos.{whole_row, whole_col, list_image, at_place, along, fetched}
+use Rattle.rfc6386.proofs.Laws.Raster.{row_fits}
+use Rattle.rfc6386.proofs.Laws.Sums.{sum-zero, rows_ext, rows_add, rows_le}
+use Rattle.rfc6386.proofs.Laws.Vectors.{fraction-under}
+use Rattle.rfc6386.specs.Taps.{Sizes, signed, sizes_of, sizes6}
+use Rattle.rfc6386.proofs.Laws.Steps.{Is, plus_of, minus_of, sum_is, row_of, bilinear-is, below, step_le}
+use Rattle.rfc6386.proofs.Laws.Samples.{Bytes, place_two, six-same, six_flat}
+use Rattle.rfc6386.proofs.Laws.Halos.{whole_row, whole_col, list_image, at_place, along, fetched}
 use Rattle.rfc6386.specs.declared.Mv.{Mv}
 use Rattle.rfc6386.specs.declared.FilterSet.{FilterSet}
 use Rattle.rfc6386.specs.declared.FilterSet.TheVariants.{Sixtap, Bilinear}
