@@ -13,7 +13,7 @@ use Rattle.rfc6386.specs.Vector.{whole_part}
 use Rattle.rfc6386.specs.Picture.{Plane}
 use Rattle.rfc6386.specs.Refusal.{if_done}
 use Rattle.rfc6386.specs.Block.{shown}
-use Rattle.rfc6386.specs.Laws.Refusals.{PlaneAccepts, done, refused}
+use Rattle.rfc6386.proofs.Laws.Refusals.{PlaneAccepts, done, refused}
 use Rattle.blocks.specs.Places.{Source}
 use Rattle.blocks.proofs.Squares.{source_as}
 

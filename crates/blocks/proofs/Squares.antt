@@ -13,8 +13,8 @@ use Rattle.signed.specs.Held.{Within, Held}
 use Rattle.rfc6386.specs.Number.{clamped}
 use Rattle.rfc6386.specs.Raster.{raster, written}
 use Rattle.rfc6386.specs.Picture.{Plane, Image, image, square}
-use Rattle.rfc6386.specs.Laws.Refusals.{Fits}
-use Rattle.rfc6386.specs.Laws.Raster.{row_fits, raster_ext, length-raster, get_d-raster, within-true, get_d-written, written_ext}
+use Rattle.rfc6386.specs.Refusal.{Fits}
+use Rattle.rfc6386.proofs.Laws.Raster.{row_fits, raster_ext, length-raster, get_d-raster, within-true, get_d-written, written_ext}
 use Rattle.steps.specs.Rows.{laid}
 use Rattle.steps.specs.Window.{window_list, put_at}
 use Rattle.blocks.specs.Places.{Inside, Lies, Source, clamped_row, clamped_rect}

@@ -12,13 +12,13 @@ use Rattle.rfc6386.specs.Raster.{raster}
 use Rattle.rfc6386.specs.Picture.{Plane, Image, image, square, block, pixels, halo, halo_block}
 use Rattle.rfc6386.specs.Fetched.{square_of, pixels_of, halo_of, block_of}
 use Rattle.rfc6386.specs.Clips.{halo_clips}
-use Rattle.rfc6386.specs.Laws.Raster.{length-raster}
-use Rattle.rfc6386.specs.Laws.Refusals.{PlaneAccepts}
-use Rattle.rfc6386.specs.Laws.Samples.{Bytes}
-use Rattle.rfc6386.specs.Laws.Vectors.{fraction-under}
-use Rattle.rfc6386.specs.Laws.Halos.{filtered-block}
-use Rattle.rfc6386.specs.Laws.Fetched.{length-square}
-use Rattle.rfc6386.specs.Laws.Clipping.{filtered_clips, whole_clips_lem}
+use Rattle.rfc6386.proofs.Laws.Raster.{length-raster}
+use Rattle.rfc6386.proofs.Laws.Refusals.{PlaneAccepts}
+use Rattle.rfc6386.proofs.Laws.Samples.{Bytes}
+use Rattle.rfc6386.proofs.Laws.Vectors.{fraction-under}
+use Rattle.rfc6386.proofs.Laws.Halos.{filtered-block}
+use Rattle.rfc6386.proofs.Laws.Fetched.{length-square}
+use Rattle.rfc6386.proofs.Laws.Clipping.{filtered_clips, whole_clips_lem}
 use Rattle.rfc6386.specs.declared.Mv.{Mv}
 use Rattle.rfc6386.specs.declared.FilterSet.{FilterSet}
 use Rattle.steps.specs.Rows.{Held}

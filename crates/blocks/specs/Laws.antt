@@ -5,8 +5,8 @@ use Rattle.rfc6386.specs.Vector.{is_whole}
 use Rattle.rfc6386.specs.Picture.{Plane, image}
 use Rattle.rfc6386.specs.Fetched.{block_of}
 use Rattle.rfc6386.specs.Clips.{both_clips, block_clips}
-use Rattle.rfc6386.specs.Laws.Fetched.{length-block}
-use Rattle.rfc6386.specs.Laws.Clipping.{block_clips_le}
+use Rattle.rfc6386.proofs.Laws.Fetched.{length-block}
+use Rattle.rfc6386.proofs.Laws.Clipping.{block_clips_le}
 use Rattle.rfc6386.specs.declared.Mv.{Mv}
 use Rattle.rfc6386.specs.declared.FilterSet.{FilterSet}
 use Rattle.rfc6386.specs.declared.Clips.{Clips}

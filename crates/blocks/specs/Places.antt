@@ -8,7 +8,7 @@ use Rattle.rfc6386.specs.Raster.{written}
 use Rattle.rfc6386.specs.Picture.{Plane, image}
 use Rattle.rfc6386.specs.Refusal.{plane_refusal}
 use Rattle.rfc6386.specs.Block.{plane_of}
-use Rattle.rfc6386.specs.Laws.Refusals.{Fits}
+use Rattle.rfc6386.specs.Refusal.{Fits}
 use Rattle.rfc6386.specs.declared.Mv.{Mv}
 use Rattle.steps.specs.Rows.{laid}
 use Rattle.blocks.specs.declared.place.Place.{Place}

@@ -1,6 +1,6 @@
 // Where a macroblock stands in a plane that has `side` samples to a macroblock.
 ghost use Rattle.std.specs.Prelude.{◌≡◌, ◌*◌, ◌≤◌};
-ghost use Rattle.rfc6386.specs.Laws.Refusals.{Sized};
+ghost use Rattle.rfc6386.specs.Refusal.{Sized};
 
 use rfc6386::Sizes;
 

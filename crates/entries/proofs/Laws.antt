@@ -4,7 +4,7 @@ use Prim.Native.Nat.{ℕ}
 use Rattle.rfc6386.specs.Clips.{no_clips}
 use Rattle.rfc6386.specs.Refusal.{or_else}
 use Rattle.rfc6386.specs.Macroblock.{answered, no_samples}
-use Rattle.rfc6386.specs.Laws.Refusals.{done, refused, or_else-zero}
+use Rattle.rfc6386.proofs.Laws.Refusals.{done, refused, or_else-zero}
 use Rattle.entries.specs.Lists.{refused_by}
 use Rattle.rfc6386.specs.declared.Report.{Report}
 

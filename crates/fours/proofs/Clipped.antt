@@ -10,7 +10,7 @@ use Rattle.rfc6386.specs.Filter.{taps_of}
 use Rattle.rfc6386.specs.Picture.{six_at}
 use Rattle.rfc6386.specs.Sums.{sum_to}
 use Rattle.rfc6386.specs.Clips.{step_clip, clip_at, halo_clips}
-use Rattle.rfc6386.specs.Laws.Steps.{same_six}
+use Rattle.rfc6386.proofs.Laws.Steps.{same_six}
 use Rattle.rfc6386.specs.declared.FilterSet.{FilterSet}
 use Rattle.steps.specs.Tally.{part, tally_of}
 use Rattle.steps.specs.Window.{window_list, along, six_down, window_clip}

@@ -12,8 +12,8 @@ use lib.ListN.{length, get_or}
 use Rattle.rfc6386.specs.Raster.{within, written}
 use Rattle.rfc6386.specs.Filter.{step}
 use Rattle.rfc6386.specs.Picture.{six_at, step_at}
-use Rattle.rfc6386.specs.Laws.Raster.{row_fits, within-true, length-written}
-use Rattle.rfc6386.specs.Laws.Steps.{same_six}
+use Rattle.rfc6386.proofs.Laws.Raster.{row_fits, within-true, length-written}
+use Rattle.rfc6386.proofs.Laws.Steps.{same_six}
 use Rattle.steps.specs.Rows.{Room}
 use Rattle.steps.specs.Laws.Copying.{within-false, written_look}
 

@@ -9,7 +9,7 @@ use lib.Dec.{ltb}
 use lib.ListN.{length, get_or}
 use Rattle.rfc6386.specs.Raster.{raster, written}
 use Rattle.rfc6386.specs.Picture.{halo_sample, halo_block}
-use Rattle.rfc6386.specs.Laws.Raster.{get_d-raster}
+use Rattle.rfc6386.proofs.Laws.Raster.{get_d-raster}
 use Rattle.rfc6386.specs.declared.FilterSet.{FilterSet}
 use Rattle.steps.specs.Window.{window_list, beside}
 use Rattle.steps.specs.Laws.Windows.{raster_of, window_sample_lem}

@@ -9,8 +9,8 @@ use lib.IntN.{ℤ}
 use lib.ListN.{length, get_or}
 use Rattle.rfc6386.specs.Filter.{taps_of}
 use Rattle.rfc6386.specs.Picture.{step_at, halo_block}
-use Rattle.rfc6386.specs.Laws.Raster.{length-tab, get_d-tab, row_fits, within-true}
-use Rattle.rfc6386.specs.Laws.Steps.{step-zero}
+use Rattle.rfc6386.proofs.Laws.Raster.{length-tab, get_d-tab, row_fits, within-true}
+use Rattle.rfc6386.proofs.Laws.Steps.{step-zero}
 use Rattle.rfc6386.specs.declared.FilterSet.{FilterSet}
 use Rattle.rfc6386.specs.declared.FilterSet.TheVariants.{Bilinear}
 use Rattle.steps.specs.declared.taps.Taps.{Taps}

@@ -7,7 +7,7 @@ use lib.ListN.{length, get_or}
 use Rattle.rfc6386.specs.Raster.{written}
 use Rattle.rfc6386.specs.Macroblock.{Reference, lent, refusal}
 use Rattle.rfc6386.specs.Channel.{luma, chroma_u, chroma_v}
-use Rattle.rfc6386.specs.Laws.Refusals.{done, refused, or_else-zero}
+use Rattle.rfc6386.proofs.Laws.Refusals.{done, refused, or_else-zero}
 use Rattle.steps.specs.Rows.{Room}
 use Rattle.outputs.specs.Output.{flat}
 use Rattle.outputs.specs.Laws.{Counted, zeros}

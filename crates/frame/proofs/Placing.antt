@@ -9,7 +9,7 @@ use lib.ListN.{length, get_or}
 use lib.Seq.{ext_get_or}
 use Rattle.rfc6386.specs.Raster.{written, within}
 use Rattle.rfc6386.specs.Channel.{Channel, side, samples_in}
-use Rattle.rfc6386.specs.Laws.Raster.{next_row, row_fits, get_d-written, length-written, written_ext, within_is}
+use Rattle.rfc6386.proofs.Laws.Raster.{next_row, row_fits, get_d-written, length-written, written_ext, within_is}
 use Rattle.steps.specs.Rows.{Room}
 use Rattle.steps.specs.Laws.Copying.{within-false}
 use Rattle.steps.specs.Laws.Parts.{within_parts, written_rows}

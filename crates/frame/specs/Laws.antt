@@ -12,9 +12,10 @@ use Rattle.rfc6386.specs.Refusal.{or_else, room_refusal, stride_fault, length_fa
 use Rattle.rfc6386.specs.Vector.{Lowering, zero_vector, sent}
 use Rattle.rfc6386.specs.Macroblock.{Reference, plane_y, plane_u, plane_v, size_test, stride_test, length_test, place_test, refusal, answered, whole, split}
 use Rattle.rfc6386.specs.Channel.{Channel, side, samples_in}
-use Rattle.rfc6386.specs.Laws.Tests.{or-false}
-use Rattle.rfc6386.specs.Laws.Refusals.{done, or_else_next, or_else-zero, Sized, sized}
-use Rattle.rfc6386.specs.Laws.Raster.{get_d-tab, row_fits}
+use Rattle.rfc6386.proofs.Laws.Tests.{or-false}
+use Rattle.rfc6386.specs.Refusal.{Sized}
+use Rattle.rfc6386.proofs.Laws.Refusals.{done, or_else_next, or_else-zero, sized}
+use Rattle.rfc6386.proofs.Laws.Raster.{get_d-tab, row_fits}
 use Rattle.vector_bytes.specs.Bytes.{int16, vector_at}
 use Rattle.vector_bytes.specs.Laws.{vectors_read}
 use Rattle.outputs.specs.Output.{flat, Left}

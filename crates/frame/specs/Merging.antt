@@ -18,9 +18,9 @@ use Rattle.rfc6386.specs.Raster.{within}
 use Rattle.rfc6386.specs.Macroblock.{refusal, answered, whole, split}
 use Rattle.rfc6386.specs.Channel.{Channel, luma, chroma_u, chroma_v, side, samples_in}
 use Rattle.rfc6386.specs.Telling.{sixteen, telling_sample}
-use Rattle.rfc6386.specs.Merging.{merge_inside}
-use Rattle.rfc6386.specs.Carried.{lent_at, telling_place, Unlike, results-differ}
-use Rattle.rfc6386.specs.Laws.Raster.{length-tab, written_ext}
+use Rattle.rfc6386.proofs.Merging.{merge_inside}
+use Rattle.rfc6386.proofs.Carried.{lent_at, telling_place, Unlike, results-differ}
+use Rattle.rfc6386.proofs.Laws.Raster.{length-tab, written_ext}
 use Rattle.steps.specs.Rows.{laid}
 use Rattle.steps.specs.Laws.Copying.{get_d-laid, length-laid, laid_in, either}
 use Rattle.vector_bytes.specs.Bytes.{vectors_of}

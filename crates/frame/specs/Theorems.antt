@@ -10,9 +10,9 @@ use Rattle.std.proofs.Math.ListN.{length, get_or}
 use Rattle.rfc6386.specs.Raster.{within}
 use Rattle.rfc6386.specs.Refusal.{if_done}
 use Rattle.rfc6386.specs.Channel.{Channel, luma, chroma_u, chroma_v, side, samples_in}
-use Rattle.rfc6386.specs.Promises.{one_result}
-use Rattle.rfc6386.specs.Laws.Raster.{row_fits, length-written, get_d-written, written_sample}
-use Rattle.rfc6386.specs.Laws.Refusals.{done, refused, or_else-zero}
+use Rattle.rfc6386.proofs.Promises.{one_result}
+use Rattle.rfc6386.proofs.Laws.Raster.{row_fits, length-written, get_d-written, written_sample}
+use Rattle.rfc6386.proofs.Laws.Refusals.{done, refused, or_else-zero}
 use Rattle.steps.specs.Laws.Copying.{within_cases}
 use Rattle.outputs.specs.Laws.{zeros}
 use Rattle.frame.specs.Frame.{Planes, reference_code, Asked, cols, rows, prediction_at, frame_sample, frame_plane, references_refusal, output_refusal, frame_number, Fills}

@@ -1,6 +1,6 @@
 // The number of a frame: each test is made of all that it concerns before the next is made of any.
 ghost use Rattle.std.specs.Prelude.{◌≡◌};
-ghost use Rattle.rfc6386.specs.Laws.Refusals.{Sized};
+ghost use Rattle.rfc6386.specs.Refusal.{Sized};
 ghost use Rattle.frame.specs.Frame.{planes, references_of, asked_of, references_refusal, output_refusal, frame_number};
 
 use crate::orders::orders_refusal;

@@ -6,10 +6,10 @@ use Rattle.rfc6386.specs.Picture.{image, block_by}
 use Rattle.rfc6386.specs.Clips.{no_clips}
 use Rattle.rfc6386.specs.Refusal.{or_else, if_done, room_refusal}
 use Rattle.rfc6386.specs.Macroblock.{Reference, plane_y, plane_u, plane_v, refusal, whole_samples, split_samples, no_samples, answered, whole, split}
-use Rattle.rfc6386.specs.Promises.{one_result}
-use Rattle.rfc6386.specs.Laws.Raster.{length-raster}
-use Rattle.rfc6386.specs.Laws.Refusals.{done, refused}
-use Rattle.rfc6386.specs.Laws.Blocks.{length-block}
+use Rattle.rfc6386.proofs.Promises.{one_result}
+use Rattle.rfc6386.proofs.Laws.Raster.{length-raster}
+use Rattle.rfc6386.proofs.Laws.Refusals.{done, refused}
+use Rattle.rfc6386.proofs.Laws.Blocks.{length-block}
 use Rattle.outputs.specs.Output.{flat, call_number, Left, Told}
 use Rattle.rfc6386.specs.declared.Mv.{Mv}
 use Rattle.rfc6386.specs.declared.FilterSet.{FilterSet}

@@ -12,8 +12,9 @@ use Rattle.rfc6386.specs.Clips.{both_clips}
 use Rattle.rfc6386.specs.Refusal.{plane_refusal}
 use Rattle.rfc6386.specs.Block.{plane_of}
 use Rattle.rfc6386.specs.Macroblock.{Reference, lent, refusal}
-use Rattle.rfc6386.specs.Laws.Steps.{below}
-use Rattle.rfc6386.specs.Laws.Refusals.{Sized, Accepts, accepts, luma_start, u_start, v_start, luma_accepted, u_accepted, v_accepted}
+use Rattle.rfc6386.proofs.Laws.Steps.{below}
+use Rattle.rfc6386.specs.Refusal.{Sized}
+use Rattle.rfc6386.proofs.Laws.Refusals.{Accepts, accepts, luma_start, u_start, v_start, luma_accepted, u_accepted, v_accepted}
 use Rattle.rfc6386.specs.declared.Mv.{Mv}
 use Rattle.rfc6386.specs.declared.Clips.{Clips}
 use Rattle.rfc6386.specs.declared.Sizes.{Sizes}

@@ -15,12 +15,12 @@ use Rattle.rfc6386.specs.Picture.{Plane, Image, image, predicted, block, block_b
 use Rattle.rfc6386.specs.Fetched.{Coordinate, block_of, joined, tiles_of}
 use Rattle.rfc6386.specs.Sums.{sum_to, sum_rows}
 use Rattle.rfc6386.specs.Clips.{predicted_clip, block_clips, clips_by}
-use Rattle.rfc6386.specs.Laws.Raster.{is-tab, row_fits, within-true, get_d-written, length-written, Within, within_is}
-use Rattle.rfc6386.specs.Laws.Tests.{and-true}
-use Rattle.rfc6386.specs.Laws.Blocks.{block_sample}
-use Rattle.rfc6386.specs.Laws.Fetched.{cost, length-block, length_tiles, cost_most, joined_more, length-joined}
-use Rattle.rfc6386.specs.Laws.Sums.{sum_more, sum_le, sum_ext, rows_ext, sum_tiles}
-use Rattle.rfc6386.specs.Laws.Clipping.{block_clips_le, block_clips_ext}
+use Rattle.rfc6386.proofs.Laws.Raster.{is-tab, row_fits, within-true, get_d-written, length-written, Within, within_is}
+use Rattle.rfc6386.proofs.Laws.Tests.{and-true}
+use Rattle.rfc6386.proofs.Laws.Blocks.{block_sample}
+use Rattle.rfc6386.proofs.Laws.Fetched.{cost, length-block, length_tiles, cost_most, joined_more, length-joined}
+use Rattle.rfc6386.proofs.Laws.Sums.{sum_more, sum_le, sum_ext, rows_ext, sum_tiles}
+use Rattle.rfc6386.proofs.Laws.Clipping.{block_clips_le, block_clips_ext}
 use Rattle.rfc6386.specs.declared.Mv.{Mv}
 use Rattle.rfc6386.specs.declared.FilterSet.{FilterSet}
 use Rattle.rfc6386.specs.declared.Clips.{Clips}

@@ -4,7 +4,7 @@ use Rattle.std.proofs.Common.{sym, ◌∙◌, arith}
 use Rattle.rfc6386.specs.Clips.{no_clips}
 use Rattle.rfc6386.specs.Fetched.{Coordinate}
 use Rattle.rfc6386.specs.Report.{reported}
-use Rattle.rfc6386.specs.Laws.Refusals.{done}
+use Rattle.rfc6386.proofs.Laws.Refusals.{done}
 use Rattle.rfc6386.specs.declared.Clips.{Clips}
 use Rattle.rfc6386.specs.declared.Prediction.{Prediction}
 use Rattle.rfc6386.specs.declared.Report.{Report}

@@ -2,7 +2,7 @@
 use Rattle.std.specs.Prelude.{◌≡◌, cond, ◌||◌, ℕ, ◌+◌, ltb}
 use Rattle.std.proofs.Common.{sym}
 use Rattle.rfc6386.specs.Refusal.{if_done}
-use Rattle.rfc6386.specs.Laws.Refusals.{done, refused}
+use Rattle.rfc6386.proofs.Laws.Refusals.{done, refused}
 use Rattle.prediction.specs.declared.totals.Totals.{Totals}
 
 -- above the last number of 64 bits

@@ -7,8 +7,8 @@ use Rattle.std.proofs.Math.Seq.{ext_get_or}
 use Rattle.rfc6386.specs.Raster.{tab}
 use Rattle.rfc6386.specs.Refusal.{or_else, if_done}
 use Rattle.rfc6386.specs.Macroblock.{no_samples, answered}
-use Rattle.rfc6386.specs.Laws.Raster.{is-tab, length-tab, get_d-tab}
-use Rattle.rfc6386.specs.Laws.Tests.{or-false}
+use Rattle.rfc6386.proofs.Laws.Raster.{is-tab, length-tab, get_d-tab}
+use Rattle.rfc6386.proofs.Laws.Tests.{or-false}
 use Rattle.residue.specs.Transform.{at, inverse_wht}
 use Rattle.residue.specs.Coefficients.{block, first_of_y, seeded_at, seeded, finished, beyond, some, split_beyond, whole_beyond, residue_refusal, whole_refusal, split_refusal}
 use Rattle.residue.specs.Reconstruction.{finished_unless, whole_finished, split_finished}

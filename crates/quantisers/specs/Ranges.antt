@@ -6,7 +6,7 @@ use Rattle.std.specs.Int.{w16, w32}
 use Rattle.signed.specs.Int.{up, dn, int, range, times, nat_abs_is}
 use Rattle.rfc6386.specs.Number.{clamped}
 use Rattle.rfc6386.specs.Raster.{tab}
-use Rattle.rfc6386.specs.Laws.Raster.{length-tab, get_d-tab}
+use Rattle.rfc6386.proofs.Laws.Raster.{length-tab, get_d-tab}
 use Rattle.residue.specs.Transform.{at}
 use Rattle.quantisers.specs.Factors.{index, step_at, y2_ac_of, uv_dc_of, factors_of, dequantised}
 use Rattle.quantisers.specs.Levels.{split_factor, whole_factor, products}

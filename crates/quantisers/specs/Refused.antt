@@ -2,7 +2,7 @@
 use Rattle.std.specs.Prelude.{ℕ, ◌+◌, ◌/◌, ◌<◌, ◌≤◌, ◌≡◌, refl, ◌↔◌, Bool, true, ◌&&◌, ◌||◌, List, length, ℤ, nat_abs}
 use Rattle.std.proofs.Common.{sym, ap, ◌∙◌, subst, arith, ltb-false, le-ltb}
 use Rattle.std.proofs.Math.Bool.{false, not}
-use Rattle.rfc6386.specs.Laws.Tests.{or-false}
+use Rattle.rfc6386.proofs.Laws.Tests.{or-false}
 use Rattle.residue.specs.Transform.{at}
 use Rattle.residue.specs.Coefficients.{first_of_y, beyond, some, split_beyond, whole_beyond, residue_refusal, whole_refusal, split_refusal}
 use Rattle.residue.specs.Domain.{by-false, some_none, none-some, skipped, tried}

@@ -2,7 +2,7 @@
 -- carries it to every index. Assumes nothing.
 use Rattle.std.specs.Prelude.{ℕ, zero, suc, ◌<◌, ◌≤◌, ◌≡◌, refl, Bool, true, ◌&&◌, List, [], ◌∷◌, leb, length, get_or}
 use Rattle.std.proofs.Common.{subst, le_refl, le_trans, arith, leb-true}
-use Rattle.rfc6386.specs.Laws.Tests.{and-true}
+use Rattle.rfc6386.proofs.Laws.Tests.{and-true}
 use Rattle.quantisers.specs.Factors.{dc_steps, ac_steps}
 
 -- no number is below the one before it

@@ -6,7 +6,7 @@ use Prim.Native.Nat.{ℕ}
 use lib.IntN.{ℤ}
 use Rattle.rfc6386.specs.Refusal.{or_else}
 use Rattle.rfc6386.specs.Macroblock.{answered}
-use Rattle.rfc6386.specs.Laws.Refusals.{or_else-zero, done_is}
+use Rattle.rfc6386.proofs.Laws.Refusals.{or_else-zero, done_is}
 use Rattle.residue.specs.Coefficients.{finished}
 use Rattle.residue.specs.Reconstruction.{finished_unless}
 use Rattle.rfc6386.specs.declared.ReconstructedMb.{ReconstructedMb}

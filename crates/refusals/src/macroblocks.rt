@@ -2,7 +2,7 @@
 ghost use Rattle.std.specs.Prelude.{◌≡◌, ◌||◌, false, ◌*◌, ◌≤◌, leb, length};
 ghost use Rattle.rfc6386.specs.Refusal as numbers;
 ghost use Rattle.rfc6386.specs.Refusal.{bad_stride, too_few};
-ghost use Rattle.rfc6386.specs.Laws.Refusals.{Sized};
+ghost use Rattle.rfc6386.specs.Refusal.{Sized};
 ghost use Rattle.rfc6386.specs.Macroblock as macroblock;
 
 use crate::planes::{bad_stride, out_of_range, too_few};

@@ -13,7 +13,7 @@ use lib.ListN.{length, get_or, set, length-set}
 use lib.Seq.{get_or-set_same, get_or-set_other}
 use lib.IntN.{ℤ}
 use Rattle.rfc6386.specs.Raster.{tab}
-use Rattle.rfc6386.specs.Laws.Raster.{get_d-tab}
+use Rattle.rfc6386.proofs.Laws.Raster.{get_d-tab}
 use Rattle.residue.specs.Transform.{summed}
 use Rattle.residue.specs.Inner.{Room, Inside, Area}
 

@@ -7,7 +7,7 @@ use borrow.Author.Count.{below_more}
 use lib.ListN.{length, get_or, set, length-set}
 use lib.Seq.{get_or-set_same, get_or-set_other}
 use Rattle.rfc6386.specs.Raster.{tab}
-use Rattle.rfc6386.specs.Laws.Raster.{is-tab}
+use Rattle.rfc6386.proofs.Laws.Raster.{is-tab}
 
 -- l has n elements, and the first i are f's; d stands where there is none
 pub record Filled {A : Type 0} (d : A) (n : ℕ) (f : ℕ → A) (l : List A) (i : ℕ) : Type 0 where

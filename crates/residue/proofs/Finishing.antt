@@ -10,7 +10,7 @@ use mir.Syntax.{w16}
 use mir.Val.{SFits}
 use Rattle.signed.specs.Held.{Within, full-range, size-within, add-within, shr-within}
 use Rattle.rfc6386.specs.Filter.{clamp255}
-use Rattle.rfc6386.specs.Laws.Raster.{get_d-tab}
+use Rattle.rfc6386.proofs.Laws.Raster.{get_d-tab}
 use Rattle.residue.specs.Transform.{at, dct, down, along, eighth, transform, inverse_dct, summed}
 use Rattle.residue.specs.Coefficients.{block, residue_at}
 use Rattle.residue.specs.Short.{OnlyFirst, short-dct}

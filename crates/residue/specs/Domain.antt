@@ -6,7 +6,7 @@ use Rattle.std.proofs.Math.Bool.{not}
 use borrow.Author.Tests.{ltb-true, ltb-false, lt-ltb, le-ltb, eqb-true, eq-eqb}
 use Rattle.std.proofs.Math.IntN.{nat_abs}
 use Rattle.rfc6386.specs.Raster.{tab}
-use Rattle.rfc6386.specs.Laws.Raster.{length-tab, get_d-tab}
+use Rattle.rfc6386.proofs.Laws.Raster.{length-tab, get_d-tab}
 use Rattle.rfc6386.specs.Refusal.{or_else}
 use Rattle.residue.specs.Transform.{at, inverse_wht}
 use Rattle.residue.specs.Coefficients.{block, first_of_y, seeded_at, seeded, beyond, some, split_beyond, whole_beyond, residue_refusal, whole_refusal, split_refusal}

@@ -5,9 +5,9 @@ use Rattle.std.proofs.Common.{sym, ap, ◌∙◌, arith, eqb-true}
 use Rattle.rfc6386.specs.Vector.{Lowering, mergeable}
 use Rattle.rfc6386.specs.Macroblock.{Reference, answered, whole, split}
 use Rattle.rfc6386.specs.Telling.{sixteen}
-use Rattle.rfc6386.specs.Merging.{merge_inside}
-use Rattle.rfc6386.specs.Carried.{Place, lent_at}
-use Rattle.rfc6386.specs.Laws.Raster.{is-tab}
+use Rattle.rfc6386.proofs.Merging.{merge_inside}
+use Rattle.rfc6386.proofs.Carried.{Place, lent_at}
+use Rattle.rfc6386.proofs.Laws.Raster.{is-tab}
 use Rattle.residue.specs.Transform.{at, inverse_wht}
 use Rattle.residue.specs.Coefficients.{block, first_of_y, seeded_at, seeded, split_beyond, split_refusal}
 use Rattle.residue.specs.Reconstruction.{finished_unless, whole_finished, split_finished}

@@ -5,7 +5,7 @@ use Rattle.std.proofs.Math.Path.{ap}
 use Rattle.std.proofs.Math.Nat.{mod-lt, div-add-mod', mul-le-mul_right}
 use Rattle.std.proofs.Math.ListN.{get_or}
 use Rattle.rfc6386.specs.Raster.{tab, raster}
-use Rattle.rfc6386.specs.Laws.Raster.{is-tab, tab_ext, get_d-tab, next_row}
+use Rattle.rfc6386.proofs.Laws.Raster.{is-tab, tab_ext, get_d-tab, next_row}
 use Rattle.residue.specs.Transform.{summed}
 use Rattle.residue.specs.Coefficients.{residue_at, finished_plane}
 use Rattle.residue.specs.Inner.{Area, piece}

@@ -11,7 +11,7 @@ use Rattle.rfc6386.specs.Filter.{step}
 use Rattle.rfc6386.specs.Picture.{six_at, step_at}
 use Rattle.rfc6386.specs.Sums.{sum_to}
 use Rattle.rfc6386.specs.Clips.{step_clip, clip_at}
-use Rattle.rfc6386.specs.Laws.Sums.{sum_ext, sum_parts}
+use Rattle.rfc6386.proofs.Laws.Sums.{sum_ext, sum_parts}
 use Rattle.steps.specs.Rows.{laid, laid_twice, Low}
 use Rattle.steps.specs.Tally.{part, strip_tally}
 use Rattle.steps.specs.Window.{six_down, over, Strips}

@@ -7,7 +7,7 @@ use borrow.Author.Count.{below_more}
 use lib.ListN.{length, get_or, set, length-set, replicate, length-replicate, get_or-replicate}
 use lib.Seq.{get_or-set_same, get_or-set_other}
 use Rattle.rfc6386.specs.Sums.{sum_to, sum_rows}
-use Rattle.rfc6386.specs.Laws.Sums.{sum_none, sum_more, sum_ext, sum_le, rows_add, rows_beside, sum_columns}
+use Rattle.rfc6386.proofs.Laws.Sums.{sum_none, sum_more, sum_ext, sum_le, rows_add, rows_beside, sum_columns}
 use Rattle.sixteens.specs.Lanes.{Roomy, Added}
 
 -- ---- a row: h k is added to lane k, one a turn

@@ -9,7 +9,7 @@ use borrow.Author.Count.{below_more}
 use lib.IntN.{ℤ}
 use lib.ListN.{length, get_or, replicate, length-replicate, get_or-replicate}
 use Rattle.rfc6386.specs.Filter.{step}
-use Rattle.rfc6386.specs.Laws.Steps.{same_six}
+use Rattle.rfc6386.proofs.Laws.Steps.{same_six}
 use Rattle.steps.specs.Rows.{laid, laid_twice, Low}
 use Rattle.steps.specs.Taps.{two_taps}
 use Rattle.steps.specs.Window.{six_down, over, mix_at}

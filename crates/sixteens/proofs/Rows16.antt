@@ -6,7 +6,7 @@ use native.Mathlib.Omega.{arith}
 use borrow.Author.Count.{below_more}
 use lib.ListN.{length, get_or}
 use Rattle.rfc6386.specs.Raster.{raster}
-use Rattle.rfc6386.specs.Laws.Raster.{is-tab}
+use Rattle.rfc6386.proofs.Laws.Raster.{is-tab}
 use Rattle.steps.specs.Rows.{laid, laid_twice}
 use Rattle.steps.specs.Laws.Copying.{either, length-laid, laid_in, laid_out}
 use Rattle.steps.specs.Laws.Twofold.{twice-first, twice-second, twice_else, length_twice}

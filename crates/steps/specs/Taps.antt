@@ -1,6 +1,6 @@
 -- Six taps by their sizes.
 use Rattle.std.specs.Prelude.{◌≡◌, List, ℕ, ◌+◌, ◌*◌, ◌/◌, ◌≤◌, ℤ}
-use Rattle.rfc6386.specs.Laws.Steps.{Sizes, signed}
+use Rattle.rfc6386.specs.Taps.{Sizes, signed}
 use Rattle.steps.specs.declared.taps.Taps.{Taps}
 
 abbrev pub sizes_of : Taps → Sizes

@@ -1,7 +1,7 @@
 // A row of a tap table as a step uses it: the sizes of its taps in bytes, their signs known by place.
 ghost use Rattle.std.specs.Prelude.{◌≡◌, ◌<◌};
 ghost use Rattle.rfc6386.specs.Filter.{taps_of};
-ghost use Rattle.rfc6386.specs.Laws.Steps.{Row};
+ghost use Rattle.rfc6386.specs.Taps.{Row};
 ghost use Rattle.steps.specs.Taps.{signed_taps, Small};
 
 use crate::tables::{BILINEAR_FILTERS, SIXTAP_FILTERS};

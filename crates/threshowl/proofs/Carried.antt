@@ -17,13 +17,13 @@ use Rattle.rfc6386.specs.Refusal.{or_else, if_done, count_refusal, code_refusal,
 use Rattle.rfc6386.specs.Macroblock.{Reference, plane_y, plane_u, refusal, whole_samples, split_samples, no_samples, answered, whole, split}
 use Rattle.rfc6386.specs.Version.{reserved_version, whole_by_version, split_by_version}
 use Rattle.rfc6386.specs.Telling.{sixteen, telling_sample}
-use Rattle.rfc6386.specs.Carried.{Place, lent_at, OfTypes, telling_place, telling_typed, results_agree, results-differ}
-use Rattle.rfc6386.specs.Laws.Vectors.{vector}
-use Rattle.rfc6386.specs.Laws.Raster.{length-tab, length-raster}
-use Rattle.rfc6386.specs.Laws.Refusals.{done}
-use Rattle.rfc6386.specs.Laws.Blocks.{length-block}
-use Rattle.rfc6386.specs.Laws.Merging.{zeros-bytes}
-use Rattle.rfc6386.specs.Laws.Versions.{version_lowering, whole_meant, split_meant, whole_reserved, split_reserved}
+use Rattle.rfc6386.proofs.Carried.{Place, lent_at, OfTypes, telling_place, telling_typed, results_agree, results-differ}
+use Rattle.rfc6386.proofs.Laws.Vectors.{vector}
+use Rattle.rfc6386.proofs.Laws.Raster.{length-tab, length-raster}
+use Rattle.rfc6386.proofs.Laws.Refusals.{done}
+use Rattle.rfc6386.proofs.Laws.Blocks.{length-block}
+use Rattle.rfc6386.proofs.Laws.Merging.{zeros-bytes}
+use Rattle.rfc6386.proofs.Laws.Versions.{version_lowering, whole_meant, split_meant, whole_reserved, split_reserved}
 use Rattle.vector_bytes.specs.Bytes.{vectors_of}
 use Rattle.vector_bytes.specs.Spelled.{sixteen_spelled, spelled_is}
 use Rattle.outputs.specs.Output.{flat, call_number, Left}

@@ -9,9 +9,9 @@ use mir.Syntax.{w16}
 use mir.Val.{SFits}
 use Rattle.rfc6386.specs.Vector.{lowering_of, mergeable}
 use Rattle.rfc6386.specs.Macroblock.{whole, split}
-use Rattle.rfc6386.specs.Merging.{merge_inside}
-use Rattle.rfc6386.specs.Carried.{Place, lent_at}
-use Rattle.rfc6386.specs.Laws.Refusals.{done}
+use Rattle.rfc6386.proofs.Merging.{merge_inside}
+use Rattle.rfc6386.proofs.Carried.{Place, lent_at}
+use Rattle.rfc6386.proofs.Laws.Refusals.{done}
 use Rattle.residue.specs.Coefficients.{seeded, whole_refusal, split_refusal}
 use Rattle.residue.specs.Reconstruction.{finished_unless}
 use Rattle.residue.specs.Domain.{zero_late}

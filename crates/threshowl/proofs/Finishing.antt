@@ -15,9 +15,9 @@ use Rattle.rfc6386.specs.Picture.{image}
 use Rattle.rfc6386.specs.Raster.{tab}
 use Rattle.rfc6386.specs.Refusal.{or_else, if_done, room_refusal}
 use Rattle.rfc6386.specs.Macroblock.{Reference, plane_y, plane_u, plane_v, refusal, whole_samples, pixel_samples, no_samples, answered, whole, fraction_left}
-use Rattle.rfc6386.specs.Laws.Raster.{is-tab}
-use Rattle.rfc6386.specs.Laws.Refusals.{done, refused, or_else-zero}
-use Rattle.rfc6386.specs.Laws.Halos.{whole-block}
+use Rattle.rfc6386.proofs.Laws.Raster.{is-tab}
+use Rattle.rfc6386.proofs.Laws.Refusals.{done, refused, or_else-zero}
+use Rattle.rfc6386.proofs.Laws.Halos.{whole-block}
 use Rattle.residue.specs.Coefficients.{finished_plane, finished}
 use Rattle.residue.specs.Reconstruction.{finished_unless}
 use Rattle.residue.specs.Inner.{piece}

@@ -8,7 +8,7 @@ use Rattle.rfc6386.specs.Vector.{Lowering}
 use Rattle.rfc6386.specs.Filter.{version_profile}
 use Rattle.rfc6386.specs.Refusal.{or_else, count_refusal}
 use Rattle.rfc6386.specs.Version.{reserved_version, by_version}
-use Rattle.rfc6386.specs.Laws.Versions.{refused_by_lem}
+use Rattle.rfc6386.proofs.Laws.Versions.{refused_by_lem}
 use Rattle.outputs.specs.Output.{Left}
 use Rattle.outputs.specs.Laws.{left_as, left-refused}
 use Rattle.threshowl.specs.Boundary.{set_of}

@@ -8,8 +8,8 @@ use lib.Dec.{T}
 use Rattle.rfc6386.specs.Vector.{Lowering, sent}
 use Rattle.rfc6386.specs.Macroblock.{Reference}
 use Rattle.rfc6386.specs.Report.{is_one, whole_report, split_report, quarters_report}
-use Rattle.rfc6386.specs.Counts.{merging-whole, merging-split}
-use Rattle.rfc6386.specs.Laws.Fetched.{is_one_lem}
+use Rattle.rfc6386.proofs.Counts.{merging-whole, merging-split}
+use Rattle.rfc6386.proofs.Laws.Fetched.{is_one_lem}
 use Rattle.threshowl.specs.Boundary.{kind_of, report_of}
 use Rattle.rfc6386.specs.declared.Mv.{Mv}
 use Rattle.rfc6386.specs.declared.FilterSet.{FilterSet}

@@ -13,7 +13,7 @@ use borrow.Author.Count.{below_more}
 use Rattle.signed.specs.Int.{int, diff}
 use Rattle.signed.specs.Held.{Held, nat_at, lit_neg, sub, sub_need}
 use Rattle.rfc6386.specs.Number.{wrap16}
-use Rattle.rfc6386.specs.Laws.Vectors.{wrap_in, wrap_high}
+use Rattle.rfc6386.proofs.Laws.Vectors.{wrap_in, wrap_high}
 
 -- ---- sixteen bits, read as signed
 pub read_low : (n : ℕ) → n < 32768 → to_z w16 n ≡ wrap16 (pos n)

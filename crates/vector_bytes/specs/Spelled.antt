@@ -7,8 +7,8 @@ use Rattle.signed.specs.Int.{int, range, diff}
 use Rattle.rfc6386.specs.Number.{floor_mod, wrap16}
 use Rattle.rfc6386.specs.Raster.{tab}
 use Rattle.rfc6386.specs.Telling.{sixteen}
-use Rattle.rfc6386.specs.Laws.Vectors.{vector, wrap_in, wrap_high}
-use Rattle.rfc6386.specs.Laws.Raster.{length-tab, get_d-tab, is-tab}
+use Rattle.rfc6386.proofs.Laws.Vectors.{vector, wrap_in, wrap_high}
+use Rattle.rfc6386.proofs.Laws.Raster.{length-tab, get_d-tab, is-tab}
 use Rattle.vector_bytes.specs.Bytes.{int16, vector_at, vectors_of}
 use Rattle.vector_bytes.specs.Laws.{vectors_read}
 use Rattle.rfc6386.specs.declared.Mv.{Mv}

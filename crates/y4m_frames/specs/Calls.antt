@@ -3,8 +3,8 @@ use Rattle.std.specs.Prelude.{◌≡◌, refl, Bool, true, false, cond, ◌&&◌
 use Rattle.std.proofs.Common.{sym, ap, ◌∙◌, append_assoc, arith, mul-le-mul, length-append}
 use borrow.Author.Tests.{leb-true, eq-eqb, ne_eqb, lt-ltb, le-ltb}
 use Rattle.rfc6386.specs.Raster.{tab}
-use Rattle.rfc6386.specs.Laws.Raster.{length-raster}
-use Rattle.rfc6386.specs.Laws.Tests.{and-true}
+use Rattle.rfc6386.proofs.Laws.Raster.{length-raster}
+use Rattle.rfc6386.proofs.Laws.Tests.{and-true}
 use Rattle.y4m_header.specs.Words.{same}
 use Rattle.y4m_frames.specs.Frames.{frame_mark, half, blocks, sizes, plain, whole, file_samples, padded_samples, frame_length, padded, cropped, padded_plane, cropped_plane, padded_frame, file_frame, is_size, stopped, read_frame, write_frame, output_after, Reads, Writes}
 use Rattle.y4m_frames.specs.Inner.{put, PlaneSound, Sound}

@@ -3,7 +3,7 @@ use Rattle.std.specs.Prelude.{◌≡◌, List, ℕ, min, ◌+◌, ◌-◌, ◌*�
 use Rattle.std.proofs.Common.{ap, ◌∙◌, arith, mul-le-mul_right}
 use Rattle.rfc6386.specs.Number.{clamped}
 use Rattle.rfc6386.specs.Raster.{tab}
-use Rattle.rfc6386.specs.Laws.Raster.{length-tab, row_fits}
+use Rattle.rfc6386.proofs.Laws.Raster.{length-tab, row_fits}
 use Rattle.y4m_frames.specs.Frames.{padded, cropped, plain, whole}
 use Rattle.y4m_frames.specs.Inner.{put, Padding, Cropping, PlaneSound}
 use Rattle.y4m_frames.specs.declared.planes.Plane.{Plane}

@@ -7,7 +7,7 @@ use Rattle.std.proofs.Math.Seq.{drop-append-add}
 use Rattle.std.proofs.lemmas.List.{set_split}
 use Rattle.rfc6386.specs.Number.{clamped}
 use Rattle.rfc6386.specs.Raster.{tab, raster}
-use Rattle.rfc6386.specs.Laws.Raster.{length-tab, get_d-tab, is-tab, tab_ext, length-raster, next_row, row_fits}
+use Rattle.rfc6386.proofs.Laws.Raster.{length-tab, get_d-tab, is-tab, tab_ext, length-raster, next_row, row_fits}
 use Rattle.y4m_frames.specs.Inner.{put}
 
 -- ---- a list laid over another

@@ -4,7 +4,7 @@ use Rattle.std.proofs.Common.{sym, ap, ap₂, ◌∙◌, append_assoc, arith, le
 use Rattle.std.proofs.Math.ListN.{get_or-append}
 use Rattle.rfc6386.specs.Number.{clamped}
 use Rattle.rfc6386.specs.Raster.{tab, raster}
-use Rattle.rfc6386.specs.Laws.Raster.{is-tab, get_d-raster, raster_ext, tab-raster, row_fits}
+use Rattle.rfc6386.proofs.Laws.Raster.{is-tab, get_d-raster, raster_ext, tab-raster, row_fits}
 use Rattle.y4m_header.specs.Words.{same}
 use Rattle.y4m_header.specs.Laws.{same_equal}
 use Rattle.y4m_frames.specs.Frames.{frame_mark, half, blocks, plain, whole, frame_length, padded, cropped, padded_plane, cropped_plane, padded_frame, file_frame}

@@ -5,7 +5,7 @@ use mir.Syntax.{w16}
 use Rattle.signed.specs.Int.{int, one_side}
 use Rattle.signed.specs.Held.{Held, Within, par, lit, lit_neg, cast, add, named, better, lt_z_test}
 use Rattle.rfc6386.specs.Number.{wrap16}
-use Rattle.rfc6386.specs.Laws.Vectors.{wrap_in}
+use Rattle.rfc6386.proofs.Laws.Vectors.{wrap_in}
 use Rattle.motion_vectors.proofs.Laws.{wrap_within}
 use Rattle.motion_vectors.proofs.wrapping_add_i16.Goals as goal
 

@@ -9,10 +9,10 @@ use Rattle.rfc6386.specs.Vector.{Lowering, lowering_of}
 use Rattle.rfc6386.specs.Fetched.{Coordinate}
 use Rattle.rfc6386.specs.Clips.{clips_by}
 use Rattle.rfc6386.specs.Report.{luma, quarters_of, split_clips, quarters_report}
-use Rattle.rfc6386.specs.Counts.{quarters_most, split_range}
-use Rattle.rfc6386.specs.Clipping.{split_le}
+use Rattle.rfc6386.proofs.Counts.{quarters_most, split_range}
+use Rattle.rfc6386.proofs.Clipping.{split_le}
 use Rattle.rfc6386.specs.Macroblock.{Reference, lent, plane_y, split}
-use Rattle.rfc6386.specs.Laws.Fetched.{report-refused}
+use Rattle.rfc6386.proofs.Laws.Fetched.{report-refused}
 use Rattle.rfc6386.specs.declared.Clips.{Clips}
 use Rattle.rfc6386.specs.declared.Prediction.{Prediction}
 use Rattle.blocks.specs.Places.{plane_at}

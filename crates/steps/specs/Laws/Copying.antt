@@ -5,7 +5,7 @@ use Rattle.std.proofs.Common.{sym, ap, ap₂, ◌∙◌, subst, mod-lt, div-add-
 use Rattle.std.proofs.Math.Arith.{digits_div, digits_mod}
 use Rattle.std.proofs.Math.ListN.{get_or-eq_default}
 use Rattle.rfc6386.specs.Raster.{within, written}
-use Rattle.rfc6386.specs.Laws.Raster.{is-tab, length-tab, get_d-tab, within-true, row_fits, get_d-written}
+use Rattle.rfc6386.proofs.Laws.Raster.{is-tab, length-tab, get_d-tab, within-true, row_fits, get_d-written}
 use Rattle.steps.specs.Rows.{laid}
 
 -- ---- one of n numbers from a on, and not

@@ -9,7 +9,8 @@ use Rattle.signed.specs.Held.{Within}
 use Rattle.rfc6386.specs.Number.{floor_div}
 use Rattle.rfc6386.specs.Filter.{rounded}
 use Rattle.rfc6386.specs.Clips.{clip_of}
-use Rattle.rfc6386.specs.Laws.Steps.{Sizes, signed, Is, plus_of, minus_of, sum_is}
+use Rattle.rfc6386.specs.Taps.{Sizes, signed}
+use Rattle.rfc6386.proofs.Laws.Steps.{Is, plus_of, minus_of, sum_is}
 use Rattle.rfc6386.specs.declared.Clip.TheVariants.{High, None}
 use Rattle.steps.specs.Tally.{part}
 

@@ -2,8 +2,9 @@
 use Rattle.std.specs.Prelude.{◌≡◌, refl, [], ◌∷◌, ℕ, zero, suc, ◌+◌, ◌*◌, ◌<◌, ◌≤◌, nat_abs}
 use Rattle.std.proofs.Common.{sym, ap, ap₂, ◌∙◌, subst, mul-le-mul_left, arith}
 use Rattle.rfc6386.specs.Filter.{less, taps_of, step}
-use Rattle.rfc6386.specs.Laws.Steps as steps
-use Rattle.rfc6386.specs.Laws.Steps.{Sizes, signed, added, taken, below, row_of, step_is}
+use Rattle.rfc6386.proofs.Laws.Steps as steps
+use Rattle.rfc6386.specs.Taps.{Sizes, signed, added, taken}
+use Rattle.rfc6386.proofs.Laws.Steps.{below, row_of, step_is}
 use Rattle.rfc6386.specs.declared.FilterSet.TheVariants.{Bilinear}
 use Rattle.steps.specs.Taps.{sizes_of, signed_taps, Middle, two_taps}
 use Rattle.steps.specs.declared.taps.Taps.{Taps}

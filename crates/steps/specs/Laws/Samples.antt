@@ -10,8 +10,8 @@ use native.Mathlib.Omega.{arith}
 use Rattle.rfc6386.specs.Filter.{taps_of, step}
 use Rattle.rfc6386.specs.Picture.{six_at, step_at}
 use Rattle.rfc6386.specs.Clips.{step_clip, clip_at}
-use Rattle.rfc6386.specs.Laws.Steps.{same_six, step-zero, step_le}
-use Rattle.rfc6386.specs.Laws.Clipping.{clip-zero}
+use Rattle.rfc6386.proofs.Laws.Steps.{same_six, step-zero, step_le}
+use Rattle.rfc6386.proofs.Laws.Clipping.{clip-zero}
 use Rattle.rfc6386.specs.declared.FilterSet.{FilterSet}
 use Rattle.rfc6386.specs.declared.FilterSet.TheVariants.{Bilinear}
 use Rattle.steps.specs.Taps.{signed_taps, Middle, two_taps}

@@ -3,9 +3,9 @@ use Rattle.std.specs.Prelude.{◌≡◌, refl, ℕ, zero, suc, ◌+◌, ◌-◌,
 use Rattle.std.proofs.Common.{sym, ap, ap₂, ◌∙◌, arith}
 use Rattle.rfc6386.specs.Sums.{sum_to, sum_rows}
 use Rattle.rfc6386.specs.Clips.{is_low, is_high, both_clips, totals, halo_clips}
-use Rattle.rfc6386.specs.Laws.Sums.{sum_none, sum_more, sum-zero, sum_le, sum_parts, sum_rows_lem, rows_ext, rows_add, rows_times, rows_beside}
-use Rattle.rfc6386.specs.Laws.Steps.{step_le}
-use Rattle.rfc6386.specs.Laws.Clipping.{clip_bilinear, halo_clips_le, halo_clips_whole}
+use Rattle.rfc6386.proofs.Laws.Sums.{sum_none, sum_more, sum-zero, sum_le, sum_parts, sum_rows_lem, rows_ext, rows_add, rows_times, rows_beside}
+use Rattle.rfc6386.proofs.Laws.Steps.{step_le}
+use Rattle.rfc6386.proofs.Laws.Clipping.{clip_bilinear, halo_clips_le, halo_clips_whole}
 use Rattle.rfc6386.specs.declared.FilterSet.{FilterSet}
 use Rattle.rfc6386.specs.declared.FilterSet.TheVariants.{Bilinear}
 use Rattle.rfc6386.specs.declared.Clip.{Clip}

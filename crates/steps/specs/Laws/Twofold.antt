@@ -1,7 +1,7 @@
 -- Two rows laid in turn, `off` apart: a loop that lays an element of each a turn. Assumes nothing.
 use Rattle.std.specs.Prelude.{◌≡◌, refl, cond, List, ℕ, ◌+◌, ◌-◌, ◌<◌, ◌≤◌, length, get_or, set}
 use Rattle.std.proofs.Common.{sym, ◌∙◌, subst, arith, below_more, length-set, get_or-set_same, get_or-set_other}
-use Rattle.rfc6386.specs.Laws.Raster.{is-tab}
+use Rattle.rfc6386.proofs.Laws.Raster.{is-tab}
 use Rattle.steps.specs.Rows.{laid, laid_twice}
 use Rattle.steps.specs.Laws.Copying.{within_cases, get_d-laid, length-laid, laid_in, laid_out}
 

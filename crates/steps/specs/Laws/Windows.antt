@@ -10,8 +10,8 @@ use Rattle.rfc6386.specs.Filter.{taps_of, step}
 use Rattle.rfc6386.specs.Raster.{raster, written}
 use Rattle.rfc6386.specs.Picture.{six_at, step_at, halo_sample, halo_block}
 use Rattle.rfc6386.specs.Clips.{step_clip, halo_clip, halo_clips}
-use Rattle.rfc6386.specs.Laws.Raster.{is-tab, length-raster, get_d-raster, raster_ext, tab-raster, written_all, written_ext}
-use Rattle.rfc6386.specs.Laws.Steps.{same_six}
+use Rattle.rfc6386.proofs.Laws.Raster.{is-tab, length-raster, get_d-raster, raster_ext, tab-raster, written_all, written_ext}
+use Rattle.rfc6386.proofs.Laws.Steps.{same_six}
 use Rattle.rfc6386.specs.declared.FilterSet.{FilterSet}
 use Rattle.steps.specs.Rows.{Held}
 use Rattle.steps.specs.Window.{window_list, put_at, beside, along, six_down, window_sample, window_clip}

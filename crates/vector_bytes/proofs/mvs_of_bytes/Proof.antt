@@ -8,7 +8,7 @@ use lib.ListN.{length-set, length, get_or}
 use mir.Syntax.{w16}
 use Rattle.signed.specs.Held.{got}
 use Rattle.rfc6386.specs.Vector.{zero_vector}
-use Rattle.rfc6386.specs.Laws.Raster.{is-tab}
+use Rattle.rfc6386.proofs.Laws.Raster.{is-tab}
 use Rattle.vector_bytes.specs.Bytes.{vector_at}
 use Rattle.vector_bytes.specs.Laws.{vectors_read, vectors_none}
 use Rattle.vector_bytes.proofs.Laws.{fill_more}

@@ -5,7 +5,7 @@ use Rattle.rfc6386.specs.Vector.{Lowering}
 use Rattle.rfc6386.specs.Macroblock.{lent, split}
 use Rattle.rfc6386.specs.Report.{split_report}
 use Rattle.rfc6386.specs.Version.{split_by_version}
-use Rattle.rfc6386.specs.Laws.Versions.{in_mode_lem, refused_by_lem, predicted_by}
+use Rattle.rfc6386.proofs.Laws.Versions.{in_mode_lem, refused_by_lem, predicted_by}
 use Rattle.rfc6386.specs.declared.FilterSet.{FilterSet}
 use Rattle.rfc6386.specs.declared.Prediction.{Prediction}
 use Rattle.rfc6386.specs.declared.Report.{Report}

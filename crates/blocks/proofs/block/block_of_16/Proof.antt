@@ -3,10 +3,10 @@ use borrow.Author.Rules.{rules}
 use mathlib.Core.Path.{sym, ◌∙◌}
 use native.Mathlib.Omega.{arith}
 use Rattle.rfc6386.specs.Picture.{image}
-use Rattle.rfc6386.specs.Laws.Refusals.{PlaneAccepts, plane_accepts}
-use Rattle.rfc6386.specs.Laws.Samples.{Bytes}
-use Rattle.rfc6386.specs.Laws.Blocks.{image_bytes}
-use Rattle.rfc6386.specs.Laws.Halos.{whole-block}
+use Rattle.rfc6386.proofs.Laws.Refusals.{PlaneAccepts, plane_accepts}
+use Rattle.rfc6386.proofs.Laws.Samples.{Bytes}
+use Rattle.rfc6386.proofs.Laws.Blocks.{image_bytes}
+use Rattle.rfc6386.proofs.Laws.Halos.{whole-block}
 use Rattle.blocks.specs.Places.{plane_at, HaloAt}
 use Rattle.blocks.proofs.Fetches.{under_x, under_y}
 use Rattle.blocks.proofs.Windows.{way_mx, way_my, way_block, near_held, near_window, far_size, far_window, takes-pixels, takes-halo, few_fetched}

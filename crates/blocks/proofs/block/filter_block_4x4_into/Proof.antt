@@ -5,9 +5,9 @@ use Prim.Native.Nat.{◌+◌, ◌≤◌}
 use native.Mathlib.Nat.{mul-le-mul_right}
 use native.Mathlib.Omega.{arith}
 use lib.ListN.{length}
-use Rattle.rfc6386.specs.Laws.Raster.{written_ext}
-use Rattle.rfc6386.specs.Laws.Blocks.{block_sample}
-use Rattle.rfc6386.specs.Laws.Refusals.{roomy, into_plane, into-no_room, into_done}
+use Rattle.rfc6386.proofs.Laws.Raster.{written_ext}
+use Rattle.rfc6386.proofs.Laws.Blocks.{block_sample}
+use Rattle.rfc6386.proofs.Laws.Refusals.{roomy, into_plane, into-no_room, into_done}
 use Rattle.blocks.proofs.block.filter_block_4x4_into.Statement.{statement}
 use Rattle.blocks.proofs.block.filter_block_4x4_into.Tie as tie
 

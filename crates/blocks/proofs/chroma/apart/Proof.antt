@@ -2,7 +2,7 @@
 use borrow.Author.Rules.{rules}
 use mathlib.Core.Path.{refl, ◌∙◌}
 use native.Mathlib.Omega.{arith}
-use Rattle.rfc6386.specs.Laws.Raster.{written_all}
+use Rattle.rfc6386.proofs.Laws.Raster.{written_all}
 use Rattle.blocks.proofs.chroma.apart.Statement.{statement}
 use Rattle.blocks.proofs.chroma.apart.Tie as tie
 

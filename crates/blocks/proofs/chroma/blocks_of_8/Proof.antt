@@ -4,10 +4,10 @@ use mathlib.Core.Path.{sym, ap₂, ◌∙◌}
 use Prim.Native.Nat.{◌+◌, ◌*◌, ◌^◌, ◌<◌}
 use native.Mathlib.Omega.{arith}
 use Rattle.rfc6386.specs.Picture.{image}
-use Rattle.rfc6386.specs.Laws.Refusals.{PlaneAccepts, plane_accepts}
-use Rattle.rfc6386.specs.Laws.Samples.{Bytes}
-use Rattle.rfc6386.specs.Laws.Blocks.{image_bytes}
-use Rattle.rfc6386.specs.Laws.Halos.{whole-block}
+use Rattle.rfc6386.proofs.Laws.Refusals.{PlaneAccepts, plane_accepts}
+use Rattle.rfc6386.proofs.Laws.Samples.{Bytes}
+use Rattle.rfc6386.proofs.Laws.Blocks.{image_bytes}
+use Rattle.rfc6386.proofs.Laws.Halos.{whole-block}
 use Rattle.steps.specs.Laws.Tallies.{window_tally}
 use Rattle.blocks.specs.Places.{plane_at, HaloAt}
 use Rattle.blocks.proofs.Fetches.{under_x, under_y}

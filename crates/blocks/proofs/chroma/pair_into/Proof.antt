@@ -4,7 +4,7 @@ use mathlib.Core.Path.{sym, ap, ap₂, ◌∙◌}
 use Prim.Native.Nat.{◌+◌}
 use native.Mathlib.Omega.{arith}
 use lib.ListN.{length}
-use Rattle.rfc6386.specs.Laws.Halos.{whole-block}
+use Rattle.rfc6386.proofs.Laws.Halos.{whole-block}
 use Rattle.steps.specs.Laws.Windows.{put_as, put_left, put_right, length-beside}
 use Rattle.blocks.proofs.Windows.{pixels_size, takes-pixels, few_fetched}
 use Rattle.blocks.proofs.chroma.pair_into.Statement.{statement}

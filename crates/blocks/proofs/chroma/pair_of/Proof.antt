@@ -4,9 +4,9 @@ use mathlib.Core.Path.{refl, ap₂, ◌∙◌}
 use Prim.Native.Nat.{◌+◌, ◌*◌, ◌^◌, ◌<◌}
 use native.Mathlib.Omega.{arith}
 use Rattle.rfc6386.specs.Picture.{image}
-use Rattle.rfc6386.specs.Laws.Refusals.{PlaneAccepts, plane_accepts}
-use Rattle.rfc6386.specs.Laws.Samples.{Bytes}
-use Rattle.rfc6386.specs.Laws.Blocks.{image_bytes}
+use Rattle.rfc6386.proofs.Laws.Refusals.{PlaneAccepts, plane_accepts}
+use Rattle.rfc6386.proofs.Laws.Samples.{Bytes}
+use Rattle.rfc6386.proofs.Laws.Blocks.{image_bytes}
 use Rattle.blocks.specs.Places.{plane_at, HaloAt}
 use Rattle.blocks.proofs.Fetches.{under_x, under_y}
 use Rattle.steps.specs.Window.{beside}

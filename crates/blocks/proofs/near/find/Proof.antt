@@ -7,7 +7,7 @@ use lib.IntN.{nat_abs}
 use mir.Syntax.{w64}
 use Rattle.signed.specs.Int.{dn}
 use Rattle.signed.specs.Held.{Held, lit, sub, sub_need, nat_need}
-use Rattle.rfc6386.specs.Laws.Fetched.{length-square}
+use Rattle.rfc6386.proofs.Laws.Fetched.{length-square}
 use Rattle.blocks.specs.Places.{Near, Lies, halo_start}
 use Rattle.blocks.proofs.Squares.{near_as, starts}
 use Rattle.blocks.proofs.Fetches.{placed}

@@ -8,8 +8,8 @@ use native.Mathlib.Nat.{mul-le-mul}
 use native.Mathlib.Omega.{arith}
 use Rattle.signed.specs.Held.{Held, lit, sub, sub_need}
 use Rattle.rfc6386.specs.Vector.{whole_part}
-use Rattle.rfc6386.specs.Laws.Fetched.{length-square}
-use Rattle.rfc6386.specs.Laws.Refusals.{plane_accepts}
+use Rattle.rfc6386.proofs.Laws.Fetched.{length-square}
+use Rattle.rfc6386.proofs.Laws.Refusals.{plane_accepts}
 use Rattle.blocks.specs.Places.{plane_at, clamped_rect}
 use Rattle.blocks.proofs.Fetches.{placed, under_x, under_y, source_of}
 use Rattle.blocks.proofs.sided.clamped_halo.Statement.{statement}

@@ -8,11 +8,11 @@ use native.Mathlib.Omega.{arith}
 use lib.IntN.{ℤ}
 use lib.ListN.{length, replicate}
 use Rattle.rfc6386.specs.Picture.{Plane, image, square}
-use Rattle.rfc6386.specs.Laws.Raster.{row_fits}
-use Rattle.rfc6386.specs.Laws.Refusals.{PlaneAccepts, plane_accepts}
-use Rattle.rfc6386.specs.Laws.Samples.{Bytes}
-use Rattle.rfc6386.specs.Laws.Blocks.{image_bytes}
-use Rattle.rfc6386.specs.Laws.Halos.{whole-block}
+use Rattle.rfc6386.proofs.Laws.Raster.{row_fits}
+use Rattle.rfc6386.proofs.Laws.Refusals.{PlaneAccepts, plane_accepts}
+use Rattle.rfc6386.proofs.Laws.Samples.{Bytes}
+use Rattle.rfc6386.proofs.Laws.Blocks.{image_bytes}
+use Rattle.rfc6386.proofs.Laws.Halos.{whole-block}
 use Rattle.steps.specs.Window.{window_list}
 use Rattle.steps.specs.Laws.Windows.{put_as}
 use Rattle.steps.specs.Laws.Parts.{side_least, side_most}

@@ -4,7 +4,7 @@ use lib.IntN.{pos, ◌+ℤ◌}
 use mir.Syntax.{w64}
 use Rattle.signed.specs.Int.{int, nat_abs_is, one_side}
 use Rattle.signed.specs.Held.{Held, par_in, nat_at, lit, add, add_need, lt_z_test, nat_need, nat}
-use Rattle.rfc6386.specs.Laws.Vectors.{clamped-is}
+use Rattle.rfc6386.proofs.Laws.Vectors.{clamped-is}
 use Rattle.blocks.proofs.square.clamp_at.Statement.{statement}
 use Rattle.blocks.proofs.square.clamp_at.Tie as tie
 

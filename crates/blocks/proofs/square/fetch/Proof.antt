@@ -10,8 +10,8 @@ use mir.Syntax.{w64}
 use Rattle.signed.specs.Int.{dn}
 use Rattle.signed.specs.Held.{Held, par_in, nat_need}
 use Rattle.rfc6386.specs.Picture.{Plane}
-use Rattle.rfc6386.specs.Laws.Raster.{row_fits}
-use Rattle.rfc6386.specs.Laws.Fetched.{length-square}
+use Rattle.rfc6386.proofs.Laws.Raster.{row_fits}
+use Rattle.rfc6386.proofs.Laws.Fetched.{length-square}
 use Rattle.blocks.specs.Places.{Lies, plane_at}
 use Rattle.blocks.proofs.Squares.{source_as, square_as, starts, plain_held, plain_is, corner_is, put-square}
 use Rattle.blocks.proofs.square.fetch.Statement.{statement}

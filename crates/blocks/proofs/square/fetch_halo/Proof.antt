@@ -6,7 +6,7 @@ use mir.Syntax.{w64}
 use native.Mathlib.Omega.{arith}
 use Rattle.signed.specs.Held.{Held, lit, sub, sub_need}
 use Rattle.rfc6386.specs.Vector.{whole_part}
-use Rattle.rfc6386.specs.Laws.Refusals.{plane_accepts}
+use Rattle.rfc6386.proofs.Laws.Refusals.{plane_accepts}
 use Rattle.blocks.proofs.Squares.{square_as}
 use Rattle.steps.specs.Laws.Windows.{put_as}
 use Rattle.blocks.proofs.Windows.{fetched_alike}

@@ -41,7 +41,7 @@ use borrow.Author.Tests.{eq-eqb}
 use Rattle.rfc6386.specs.Vector.{zero_vector}
 use Rattle.rfc6386.specs.Raster.{tab}
 use Rattle.rfc6386.specs.Refusal.{if_done, count_refusal}
-use Rattle.rfc6386.specs.Laws.Raster.{is-tab}
+use Rattle.rfc6386.proofs.Laws.Raster.{is-tab}
 use Rattle.rfc6386.specs.declared.Mv.{Mv}
 use Rattle.rfc6386.specs.contracts.Mv as E
 use Rattle.rfc6386.proofs.Mv.TheLaws as E'

@@ -8,7 +8,7 @@ use lib.ListN.{length, get_or}
 use Rattle.rfc6386.specs.Raster.{tab}
 use Rattle.rfc6386.specs.Clips.{clip_at}
 use Rattle.rfc6386.specs.Block.{interpolated}
-use Rattle.rfc6386.specs.Laws.Raster.{is-tab}
+use Rattle.rfc6386.proofs.Laws.Raster.{is-tab}
 use Rattle.steps.specs.Taps.{signed_taps}
 use Rattle.filters.proofs.halos.interp.Statement.{statement}
 use Rattle.filters.proofs.halos.interp.Tie as tie

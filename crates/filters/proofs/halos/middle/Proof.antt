@@ -6,7 +6,7 @@ use native.Mathlib.Nat.{add-mul}
 use native.Mathlib.Omega.{arith}
 use lib.ListN.{length, get_or}
 use Rattle.rfc6386.specs.Picture.{halo_block}
-use Rattle.rfc6386.specs.Laws.Raster.{row_fits, written_all}
+use Rattle.rfc6386.proofs.Laws.Raster.{row_fits, written_all}
 use Rattle.steps.specs.Rows.{Room, Held}
 use Rattle.steps.specs.Laws.Windows.{window_whole, window_block_lem}
 use Rattle.steps.specs.Laws.Samples.{middle_sample}

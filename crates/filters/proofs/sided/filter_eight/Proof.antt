@@ -8,7 +8,7 @@ use native.Mathlib.Omega.{arith}
 use lib.ListN.{get_or}
 use Rattle.rfc6386.specs.Raster.{written}
 use Rattle.rfc6386.specs.Picture.{halo_block}
-use Rattle.rfc6386.specs.Laws.Raster.{get_d-raster, written_ext}
+use Rattle.rfc6386.proofs.Laws.Raster.{get_d-raster, written_ext}
 use Rattle.rfc6386.specs.declared.FilterSet.{FilterSet}
 use Rattle.steps.specs.Rows.{Room}
 use Rattle.steps.specs.Window.{window_list, window_sample, put_at, Strips}

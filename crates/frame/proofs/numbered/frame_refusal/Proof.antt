@@ -5,7 +5,7 @@ use native.Mathlib.Nat.{mul-le-mul}
 use native.Mathlib.Omega.{arith}
 use borrow.Author.Rules.{rules}
 use Rattle.rfc6386.specs.Refusal.{or_else}
-use Rattle.rfc6386.specs.Laws.Refusals.{Sized}
+use Rattle.rfc6386.specs.Refusal.{Sized}
 use Rattle.frame.specs.Frame.{planes, References, references_of, references_refusal, output_refusal, orders_refusal, frame_number}
 use Rattle.frame.specs.Laws.{codes_first, codes_none, codes-passed, references-sized}
 use Rattle.frame.proofs.numbered.frame_refusal.Statement.{statement}

@@ -3,7 +3,7 @@ use mathlib.Core.Path.{refl}
 use native.Mathlib.Omega.{arith}
 use borrow.Author.Tests.{lt-ltb, le-ltb}
 use lib.Dec.{ltb}
-use Rattle.rfc6386.specs.Laws.Tests.{or_first, or_second}
+use Rattle.rfc6386.proofs.Laws.Tests.{or_first, or_second}
 use Rattle.frame.specs.Frame.{reference_code, kind_code}
 use Rattle.frame.proofs.orders.bad_order.Statement.{statement}
 use Rattle.frame.proofs.orders.bad_order.Tie as tie

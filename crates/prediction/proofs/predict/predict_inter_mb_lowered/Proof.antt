@@ -11,10 +11,10 @@ use Rattle.rfc6386.specs.Fetched.{Coordinate, block_of}
 use Rattle.rfc6386.specs.Clips.{both_clips, block_clips}
 use Rattle.rfc6386.specs.Macroblock.{Reference, lent, plane_y, plane_u, plane_v, whole, whole_samples}
 use Rattle.rfc6386.specs.Report.{whole_of, whole_clips, whole_report}
-use Rattle.rfc6386.specs.Counts.{whole_range}
-use Rattle.rfc6386.specs.Clipping.{whole_le}
-use Rattle.rfc6386.specs.Laws.Refusals.{Accepts, done_is}
-use Rattle.rfc6386.specs.Laws.Fetched.{report-refused}
+use Rattle.rfc6386.proofs.Counts.{whole_range}
+use Rattle.rfc6386.proofs.Clipping.{whole_le}
+use Rattle.rfc6386.proofs.Laws.Refusals.{Accepts, done_is}
+use Rattle.rfc6386.proofs.Laws.Fetched.{report-refused}
 use Rattle.rfc6386.specs.declared.Mv.{Mv}
 use Rattle.rfc6386.specs.declared.FilterSet.{FilterSet}
 use Rattle.rfc6386.specs.declared.Clips.{Clips}

@@ -14,8 +14,8 @@ use Rattle.rfc6386.specs.Clips.{no_clips}
 use Rattle.rfc6386.specs.Fetched.{Coordinate, pixels_of}
 use Rattle.rfc6386.specs.Report.{whole_pixel_of, whole_pixel_report}
 use Rattle.rfc6386.specs.Macroblock.{lent, plane_y, plane_u, plane_v, refusal, fraction_left, whole_pixel, pixel_samples}
-use Rattle.rfc6386.specs.Laws.Refusals.{Accepts, or_else-zero}
-use Rattle.rfc6386.specs.Laws.Fetched.{length-square, report-refused, report-done}
+use Rattle.rfc6386.proofs.Laws.Refusals.{Accepts, or_else-zero}
+use Rattle.rfc6386.proofs.Laws.Fetched.{length-square, report-refused, report-done}
 use Rattle.rfc6386.specs.declared.Mv.{Mv}
 use Rattle.prediction.proofs.Macroblock.{accepted, room, luma-at, u-at, v-at, three, moved, joint, counted}
 use Rattle.prediction.proofs.predict.predict_inter_mb_whole_pixel.Statement.{statement}

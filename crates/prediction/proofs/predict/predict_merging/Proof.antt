@@ -7,7 +7,7 @@ use lib.Dec.{T}
 use Rattle.rfc6386.specs.Vector.{Lowering, lowering_of, sent, One}
 use Rattle.rfc6386.specs.Macroblock.{Reference, lent}
 use Rattle.rfc6386.specs.Report.{whole_report, split_report, merging_report}
-use Rattle.rfc6386.specs.Counts.{merging-whole, merging-split}
+use Rattle.rfc6386.proofs.Counts.{merging-whole, merging-split}
 use Rattle.rfc6386.specs.declared.Mv.{Mv}
 use Rattle.rfc6386.specs.declared.FilterSet.{FilterSet}
 use Rattle.rfc6386.specs.declared.Report.{Report}

@@ -8,10 +8,10 @@ use lib.ListN.{length}
 use Rattle.rfc6386.specs.Vector.{Lowering, lowering_of, luma_vector, sent}
 use Rattle.rfc6386.specs.Fetched.{Coordinate, tiles_of}
 use Rattle.rfc6386.specs.Report.{split_of, split_clips, split_report}
-use Rattle.rfc6386.specs.Counts.{split_range}
-use Rattle.rfc6386.specs.Clipping.{split_le}
+use Rattle.rfc6386.proofs.Counts.{split_range}
+use Rattle.rfc6386.proofs.Clipping.{split_le}
 use Rattle.rfc6386.specs.Macroblock.{Reference, lent, plane_y, split}
-use Rattle.rfc6386.specs.Laws.Fetched.{report-refused}
+use Rattle.rfc6386.proofs.Laws.Fetched.{report-refused}
 use Rattle.rfc6386.specs.declared.Clips.{Clips}
 use Rattle.rfc6386.specs.declared.Prediction.{Prediction}
 use Rattle.blocks.specs.Places.{plane_at}

@@ -11,8 +11,8 @@ use Rattle.rfc6386.specs.Fetched.{tiles_of}
 use Rattle.rfc6386.specs.Clips.{both_clips, clips_by}
 use Rattle.rfc6386.specs.Macroblock.{lent, plane_u, plane_v, quarter, split, split_samples}
 use Rattle.rfc6386.specs.Report.{split_chroma_of, split_clips}
-use Rattle.rfc6386.specs.Laws.Refusals.{Accepts, accepts, done_is}
-use Rattle.rfc6386.specs.Laws.Merging.{block_by_ext}
+use Rattle.rfc6386.proofs.Laws.Refusals.{Accepts, accepts, done_is}
+use Rattle.rfc6386.proofs.Laws.Merging.{block_by_ext}
 use Rattle.rfc6386.specs.declared.Mv.{Mv}
 use Rattle.rfc6386.specs.declared.FilterSet.{FilterSet}
 use Rattle.blocks.specs.Places.{plane_at}

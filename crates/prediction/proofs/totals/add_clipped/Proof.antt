@@ -6,7 +6,7 @@ use Prim.Native.Nat.{ℕ, ◌+◌, ◌<◌, ◌≤◌}
 use native.Mathlib.Omega.{arith}
 use lib.Dec.{ltb}
 use borrow.Author.Tests.{lt-ltb, le-ltb}
-use Rattle.rfc6386.specs.Laws.Refusals.{done, refused}
+use Rattle.rfc6386.proofs.Laws.Refusals.{done, refused}
 use Rattle.prediction.specs.Totals.{totals_refusal, added}
 use Rattle.prediction.specs.declared.totals.Totals.{Totals}
 use Rattle.prediction.proofs.totals.add_clipped.Statement.{statement}

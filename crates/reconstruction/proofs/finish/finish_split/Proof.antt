@@ -3,7 +3,7 @@ use borrow.Author.Rules.{rules}
 use mathlib.Core.Path.{◌≡◌, sym, ap, ◌∙◌}
 use mathlib.Core.Bool.{Bool, false}
 use Rattle.rfc6386.specs.Refusal.{or_else}
-use Rattle.rfc6386.specs.Laws.Refusals.{refused_is}
+use Rattle.rfc6386.proofs.Laws.Refusals.{refused_is}
 use Rattle.residue.specs.Coefficients.{split_refusal}
 use Rattle.residue.specs.Reconstruction.{split_finished}
 use Rattle.residue.specs.Domain.{split_accepted, zero_late, open_low}

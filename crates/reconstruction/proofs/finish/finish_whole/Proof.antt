@@ -4,7 +4,7 @@ use mathlib.Core.Path.{◌≡◌, sym, ap, ◌∙◌, subst}
 use mathlib.Core.Bool.{Bool, false}
 use lib.ListN.{length}
 use Rattle.rfc6386.specs.Refusal.{or_else}
-use Rattle.rfc6386.specs.Laws.Refusals.{refused_is}
+use Rattle.rfc6386.proofs.Laws.Refusals.{refused_is}
 use Rattle.residue.specs.Coefficients.{seeded, finished, whole_refusal}
 use Rattle.residue.specs.Reconstruction.{whole_finished}
 use Rattle.residue.specs.Inner.{Open}

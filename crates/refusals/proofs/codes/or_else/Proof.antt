@@ -1,6 +1,6 @@
 -- `or_else` gives the first number, or the second where that is 0.
 use mathlib.Core.Path.{sym, ap}
-use Rattle.rfc6386.specs.Laws.Refusals.{or_else_first, or_else_next}
+use Rattle.rfc6386.proofs.Laws.Refusals.{or_else_first, or_else_next}
 use Rattle.refusals.proofs.codes.or_else.Statement.{statement}
 use Rattle.refusals.proofs.codes.or_else.Tie as tie
 

@@ -2,7 +2,7 @@
 use mathlib.Core.Path.{refl}
 use borrow.Author.Tests.{le-leb, lt-leb}
 use lib.Dec.{leb}
-use Rattle.rfc6386.specs.Laws.Tests.{or_first, or_second}
+use Rattle.rfc6386.proofs.Laws.Tests.{or_first, or_second}
 use Rattle.refusals.proofs.macroblocks.place_out.Statement.{statement}
 use Rattle.refusals.proofs.macroblocks.place_out.Tie as tie
 

@@ -3,7 +3,7 @@ use borrow.Author.Rules.{rules}
 use mathlib.Core.Path.{◌≡◌, sym, ◌∙◌}
 use mathlib.Core.Bool.{false}
 use Rattle.rfc6386.specs.Macroblock.{lent, size_test, stride_test, length_test, refusal}
-use Rattle.rfc6386.specs.Laws.Refusals.{sized}
+use Rattle.rfc6386.proofs.Laws.Refusals.{sized}
 use Rattle.refusals.proofs.macroblocks.refusal.Statement.{statement}
 use Rattle.refusals.proofs.macroblocks.refusal.Tie as tie
 

@@ -1,7 +1,7 @@
 -- `size_out` tests columns and rows.
 use borrow.Author.Rules.{rules}
 use Rattle.rfc6386.specs.Refusal.{outside}
-use Rattle.rfc6386.specs.Laws.Tests.{or_first, or_second}
+use Rattle.rfc6386.proofs.Laws.Tests.{or_first, or_second}
 use Rattle.refusals.proofs.macroblocks.size_out.Statement.{statement}
 use Rattle.refusals.proofs.macroblocks.size_out.Tie as tie
 

@@ -11,7 +11,7 @@ use lib.Seq.{get_or-set_same, get_or-set_other}
 use mir.Syntax.{w16}
 use Rattle.signed.specs.Held.{got}
 use Rattle.rfc6386.specs.Raster.{tab}
-use Rattle.rfc6386.specs.Laws.Raster.{is-tab, length-tab, get_d-tab}
+use Rattle.rfc6386.proofs.Laws.Raster.{is-tab, length-tab, get_d-tab}
 use Rattle.residue.specs.Transform.{at, inverse_wht}
 use Rattle.residue.specs.Coefficients.{block, seeded_at, seeded}
 use Rattle.residue.specs.Inner.{Low, Bounded}

@@ -3,7 +3,7 @@ use mathlib.Core.Path.{refl, sym}
 use Prim.Native.Nat.{◌+◌, ◌-◌, ◌*◌, ◌≤◌}
 use native.Mathlib.Omega.{arith}
 use lib.ListN.{length}
-use Rattle.rfc6386.specs.Laws.Steps.{step_le}
+use Rattle.rfc6386.proofs.Laws.Steps.{step_le}
 use Rattle.steps.specs.Taps.{signed_taps}
 use Rattle.steps.specs.Window.{along}
 use Rattle.sixteens.specs.Rolling.{Rolling}

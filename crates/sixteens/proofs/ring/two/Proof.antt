@@ -7,8 +7,8 @@ use native.Mathlib.Omega.{arith}
 use lib.IntN.{ℤ}
 use lib.ListN.{length}
 use Rattle.rfc6386.specs.Clips.{step_clip}
-use Rattle.rfc6386.specs.Laws.Steps.{step_le}
-use Rattle.rfc6386.specs.Laws.Sums.{rows_ext}
+use Rattle.rfc6386.proofs.Laws.Steps.{step_le}
+use Rattle.rfc6386.proofs.Laws.Sums.{rows_ext}
 use Rattle.rfc6386.specs.declared.FilterSet.TheVariants.{Sixtap}
 use Rattle.steps.specs.Tally.{part}
 use Rattle.steps.specs.Taps.{signed_taps}

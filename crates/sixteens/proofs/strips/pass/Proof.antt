@@ -8,7 +8,7 @@ use lib.ListN.{length}
 use Rattle.rfc6386.specs.Picture.{step_at}
 use Rattle.rfc6386.specs.Sums.{sum_to}
 use Rattle.rfc6386.specs.Clips.{clip_at}
-use Rattle.rfc6386.specs.Laws.Sums.{sum_add}
+use Rattle.rfc6386.proofs.Laws.Sums.{sum_add}
 use Rattle.steps.specs.Tally.{part}
 use Rattle.steps.specs.Taps.{signed_taps}
 use Rattle.steps.specs.Window.{Strips}

@@ -5,7 +5,7 @@ use native.Mathlib.Omega.{arith}
 use lib.ListN.{length-set}
 use Rattle.rfc6386.specs.Picture.{step_at}
 use Rattle.rfc6386.specs.Clips.{clip_at}
-use Rattle.rfc6386.specs.Laws.Sums.{sum_add}
+use Rattle.rfc6386.proofs.Laws.Sums.{sum_add}
 use Rattle.rfc6386.specs.declared.Clip.{Clip}
 use Rattle.steps.specs.Tally.{part}
 use Rattle.steps.specs.Taps.{signed_taps}

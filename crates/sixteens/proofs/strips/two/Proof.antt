@@ -4,7 +4,7 @@ use mathlib.Core.Path.{refl, sym, ap₂, ◌∙◌}
 use Prim.Native.Nat.{◌+◌, ◌-◌, ◌*◌, ◌≤◌}
 use native.Mathlib.Omega.{arith}
 use lib.ListN.{length}
-use Rattle.rfc6386.specs.Laws.Steps.{step_le}
+use Rattle.rfc6386.proofs.Laws.Steps.{step_le}
 use Rattle.rfc6386.specs.declared.FilterSet.TheVariants.{Sixtap}
 use Rattle.steps.specs.Taps.{signed_taps}
 use Rattle.steps.specs.Window.{along, Strips}

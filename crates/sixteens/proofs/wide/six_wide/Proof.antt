@@ -2,7 +2,7 @@
 use borrow.Author.Rules.{rules}
 use mathlib.Core.Path.{refl, ap, ◌∙◌}
 use native.Mathlib.Omega.{arith}
-use Rattle.rfc6386.specs.Laws.Sums.{rows_ext}
+use Rattle.rfc6386.proofs.Laws.Sums.{rows_ext}
 use Rattle.rfc6386.specs.declared.FilterSet.TheVariants.{Sixtap}
 use Rattle.steps.specs.Tally.{part, tally_of}
 use Rattle.steps.specs.Laws.Windows.{window_block_lem, held_third, held_columns, held_lines, block_as, clips_as}

@@ -10,7 +10,7 @@ use mir.Syntax.{w16}
 use Rattle.signed.specs.Held.{Held, Within, got, lit, nat_at, sub, sub_need, better, named, fits_in, nat_need, nat}
 use Rattle.rfc6386.specs.Filter.{clamp255, rounded, step}
 use Rattle.rfc6386.specs.Clips.{clip_of, step_clip}
-use Rattle.rfc6386.specs.Laws.Steps.{plus_of, minus_of, step_le}
+use Rattle.rfc6386.proofs.Laws.Steps.{plus_of, minus_of, step_le}
 use Rattle.steps.specs.Tally.{part}
 use Rattle.steps.specs.Taps.{sizes_of, signed_taps}
 use Rattle.steps.specs.Laws.Counting.{rounded_is}

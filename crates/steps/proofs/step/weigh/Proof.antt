@@ -1,6 +1,6 @@
 -- `weigh` meets its contract: `step_is` says a step in natural numbers, and that is what the code computes. Assumes nothing.
 use borrow.Author.Rules.{rules}
-use Rattle.rfc6386.specs.Laws.Steps.{step_is}
+use Rattle.rfc6386.proofs.Laws.Steps.{step_is}
 use Rattle.steps.specs.Taps.{sizes_of}
 use Rattle.steps.proofs.step.weigh.Statement.{statement}
 use Rattle.steps.proofs.step.weigh.Tie as tie

@@ -13,7 +13,7 @@ use mir.Val.{Fits}
 use Rattle.signed.specs.Int.{int, neg, diff, nat_abs_is, one_side}
 use Rattle.signed.specs.Held.{Held, Within, par_in, fits_in, lit, sub, sub_need, nat, nat_need}
 use Rattle.rfc6386.specs.Filter.{less}
-use Rattle.rfc6386.specs.Laws.Steps.{Row, signed, sizes_of}
+use Rattle.rfc6386.specs.Taps.{Row, signed, sizes_of}
 use Rattle.steps.specs.Taps.{signed_taps, Small}
 use Rattle.steps.specs.declared.taps.Taps.{Taps}
 use Rattle.steps.proofs.taps.sizes.Statement.{statement}

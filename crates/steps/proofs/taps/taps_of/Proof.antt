@@ -1,7 +1,8 @@
 -- `taps_of` meets its contract: what is read is a row of a table. Assumes nothing.
 use borrow.Author.Rules.{rules}
 use mathlib.Core.Path.{sym, ◌∙◌, subst}
-use Rattle.rfc6386.specs.Laws.Steps.{Row, row_of}
+use Rattle.rfc6386.specs.Taps.{Row}
+use Rattle.rfc6386.proofs.Laws.Steps.{row_of}
 use Rattle.steps.proofs.taps.taps_of.Statement.{statement}
 use Rattle.steps.proofs.taps.taps_of.Tie as tie
 

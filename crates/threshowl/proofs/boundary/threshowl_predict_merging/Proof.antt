@@ -5,8 +5,8 @@ use borrow.Author.Rules.{rules}
 use Rattle.signed.specs.Held.{got}
 use Rattle.rfc6386.specs.Vector.{lowering_of, sent}
 use Rattle.rfc6386.specs.Macroblock.{lent, whole, split}
-use Rattle.rfc6386.specs.Merging.{merge_alike}
-use Rattle.rfc6386.specs.Laws.Vectors.{vector}
+use Rattle.rfc6386.proofs.Merging.{merge_alike}
+use Rattle.rfc6386.proofs.Laws.Vectors.{vector}
 use Rattle.rfc6386.specs.Refusal.{code_refusal}
 use Rattle.threshowl.specs.Boundary.{set_of, flag_of}
 use Rattle.outputs.specs.Laws.{left_as}

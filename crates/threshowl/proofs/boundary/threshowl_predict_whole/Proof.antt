@@ -5,7 +5,7 @@ use borrow.Author.Rules.{rules}
 use Rattle.rfc6386.specs.Vector.{lowering_of}
 use Rattle.rfc6386.specs.Macroblock.{lent, whole}
 use Rattle.rfc6386.specs.Report.{whole_report}
-use Rattle.rfc6386.specs.Laws.Vectors.{vector}
+use Rattle.rfc6386.proofs.Laws.Vectors.{vector}
 use Rattle.rfc6386.specs.declared.Mv.{Mv}
 use Rattle.rfc6386.specs.declared.FilterSet.{FilterSet}
 use Rattle.threshowl.specs.Boundary.{flag_of}

@@ -9,7 +9,7 @@ use Rattle.rfc6386.specs.Vector.{lowering_of}
 use Rattle.rfc6386.specs.Refusal.{or_else, code_refusal, room_refusal}
 use Rattle.rfc6386.specs.Macroblock.{Reference, lent, whole}
 use Rattle.rfc6386.specs.Report.{whole_report}
-use Rattle.rfc6386.specs.Laws.Vectors.{vector}
+use Rattle.rfc6386.proofs.Laws.Vectors.{vector}
 use Rattle.residue.specs.Coefficients.{seeded, whole_refusal}
 use Rattle.outputs.specs.Output.{Left}
 use Rattle.threshowl.specs.Boundary.{set_of, flag_of}

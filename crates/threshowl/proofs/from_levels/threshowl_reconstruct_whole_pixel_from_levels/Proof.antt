@@ -15,7 +15,7 @@ use Rattle.rfc6386.specs.Vector.{Lowering, lowering_of}
 use Rattle.rfc6386.specs.Refusal.{or_else, room_refusal}
 use Rattle.rfc6386.specs.Macroblock.{Reference, whole, fraction_left}
 use Rattle.rfc6386.specs.Report.{whole_report}
-use Rattle.rfc6386.specs.Laws.Vectors.{vector}
+use Rattle.rfc6386.proofs.Laws.Vectors.{vector}
 use Rattle.residue.specs.Coefficients.{seeded, whole_refusal}
 use Rattle.quantisers.specs.Levels.{whole_products}
 use Rattle.quantisers.specs.Inner.{WholeOffered}

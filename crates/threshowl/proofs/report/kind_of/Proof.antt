@@ -7,7 +7,7 @@ use lib.Dec.{T}
 use borrow.Author.Rules.{rules}
 use Rattle.rfc6386.specs.Vector.{One}
 use Rattle.rfc6386.specs.Report.{is_one}
-use Rattle.rfc6386.specs.Laws.Fetched.{is_one_lem}
+use Rattle.rfc6386.proofs.Laws.Fetched.{is_one_lem}
 use Rattle.rfc6386.specs.declared.Mv.{Mv}
 use Rattle.threshowl.specs.Boundary.{kind_of}
 use Rattle.threshowl.proofs.report.kind_of.Statement.{statement}
