@@ -13,7 +13,7 @@ use Rattle.outputs.specs.Output.{flat}
 use Rattle.outputs.specs.Laws.{Counted, zeros}
 use Rattle.frame.specs.Frame.{Planes, named, reference, reference_code, kind_code, vectors_at, Asked, cols, rows, single, ordered, prediction_at, frame_plane, references_refusal, output_refusal, frame_number, Fills}
 use Rattle.frame.specs.Inner.{Ready, rows_part, RowWritten, RowsWritten}
-use Rattle.frame.proofs.Placing.{row_none, row_more, rows_none, rows_more, row-length, rows-length, room_at}
+use Rattle.frame.proofs.Placing.{row_none, row_more, rows_none, rows_more, room_at}
 use Rattle.frame.specs.Laws.{flat_y, flat_u, flat_v, flat-length, single_counted, order_in, references-sized, reference_accepted, output-holds, orders_count}
 use Rattle.frame.specs.declared.Strides.{Strides}
 
@@ -37,28 +37,6 @@ module _ (a : Asked) (s : Strides) (out : Planes) where
         y_is = rows_more a luma out.y s.y row W.y_is R.y_is;
         u_is = rows_more a chroma_u out.u s.u row W.u_is R.u_is;
         v_is = rows_more a chroma_v out.v s.v row W.v_is R.v_is;
-      }
-
-  -- ---- how long the planes are
-  pub record Long (out' : Planes) : Type 0 where
-    pub y : length out'.y ≡ length out.y
-    pub u : length out'.u ≡ length out.u
-    pub v : length out'.v ≡ length out.v
-
-  pub row_long : {out' : Planes} {row n : ℕ} → RowWritten a s row n out out' → Long out'
-  row_long {row = row} {n} W =
-      record {
-        y = row-length a luma out.y s.y row n W.y_is;
-        u = row-length a chroma_u out.u s.u row n W.u_is;
-        v = row-length a chroma_v out.v s.v row n W.v_is;
-      }
-
-  pub rows_long : {out' : Planes} {n : ℕ} → RowsWritten a s n out out' → Long out'
-  rows_long {n = n} W =
-      record {
-        y = rows-length a luma out.y s.y n W.y_is;
-        u = rows-length a chroma_u out.u s.u n W.u_is;
-        v = rows-length a chroma_v out.v s.v n W.v_is;
       }
 
 -- ---- a turn: the macroblock at column col, row row, once nothing is refused
@@ -141,10 +119,6 @@ module _ {a : Asked} {s : Strides} {y u v col row : ℕ} (T : Turn a s y u v col
               row_more a chroma_v out.v s.v row col (λ r c. get_or mb (320 + r * 8 + c) 0) W.v_is v
               (λ r c hr hc. at {j = 320 + (r * 8 + c)} (omega arith) (flat_v m counted (r * 8 + c)));
         }
-
--- ---- planes that have kept their lengths are ready still
-pub ready_still : (a : Asked) (s : Strides) {y u v y' u' v' : ℕ} → y' ≡ y → u' ≡ u → v' ≡ v → Ready a s y u v → Ready a s y' u' v'
-ready_still a s p q r R = subst (λ (x : ℕ × ℕ × ℕ). Ready a s x.0 x.1 x.2) (λ i. (sym p i, sym q i, sym r i)) R
 
 -- ---- the call
 module _ (a : Asked) (codes : ℕ) (out : Planes) (s : Strides) {n : ℕ} (e : n ≡ frame_number a codes out s) where

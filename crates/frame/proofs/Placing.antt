@@ -115,15 +115,6 @@ module _ (a : Asked) (k : Channel) (out : List ℕ) (stride : ℕ) where
       ∙ written_rows out stride 0 0 (cols a * n) (row * n) n (frame_sample a k)
       ∙ ap (λ (h : ℕ). written out stride 0 0 (cols a * n) h (frame_sample a k)) (sym (next_row row n))
 
-  -- neither changes how long it is
-  pub row-length : {d : List ℕ} (row m : ℕ) → d ≡ row_part a k out stride row m → length d ≡ length out
-  unfolding row_part
-  row-length row m e = ap length e ∙ length-written out stride 0 (row * n) (m * n) n (λ r c. frame_sample a k (row * n + r) c)
-
-  pub rows-length : {d : List ℕ} (m : ℕ) → d ≡ rows_part a k out stride m → length d ≡ length out
-  unfolding rows_part
-  rows-length m e = ap length e ∙ length-written out stride 0 0 (cols a * n) (m * n) (frame_sample a k)
-
 -- ---- there is room for each macroblock
 pub room_at : (bytes stride n cols rows col row : ℕ) → 1 ≤ n → Holds bytes stride (cols * n) (rows * n) → col < cols → row < rows
     → Room bytes stride (col * n) (row * n) n n

@@ -3,7 +3,7 @@ use Rattle.std.specs.Prelude.{◌≡◌, refl, Bool, true, false, cond, ◌&&◌
 use Rattle.std.proofs.Common.{sym, ap, ◌∙◌, inl, inr, ⊎_elim, arith, le-leb, lt-ltb, ltb-true, ltb-false, leb-false, ext_get_or}
 use Rattle.std.proofs.lemmas.Bool.{lt-leb}
 use Rattle.rfc6386.specs.Raster.{written, within}
-use Rattle.rfc6386.proofs.Laws.Raster.{get_d-written, length-written, Within, within_is}
+use Rattle.rfc6386.proofs.Laws.Raster.{get_d-written, length-written, within_is}
 use Rattle.steps.specs.Side.{Side}
 
 -- ---- sides
