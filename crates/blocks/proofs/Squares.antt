@@ -18,7 +18,7 @@ use Rattle.rfc6386.proofs.Laws.Raster.{row_fits, raster_ext, length-raster, get_
 use Rattle.steps.specs.Rows.{laid}
 use Rattle.steps.specs.Window.{window_list, put_at}
 use Rattle.blocks.specs.Places.{Inside, Lies, Source, clamped_row, clamped_rect}
-use Rattle.steps.specs.Laws.Copying.{Writing, writing_more}
+use Rattle.steps.proofs.Laws.Copying.{Writing, writing_more}
 
 -- a signed argument as its callee reads it: its range
 pub near_as : {w : Width} {z : ℤ} {u d u' d' : ℕ} (h : Held w z u d) → Within z u' d' → Within h.val u' d'

@@ -24,7 +24,7 @@ use Rattle.rfc6386.specs.declared.FilterSet.{FilterSet}
 use Rattle.steps.specs.Rows.{Held}
 use Rattle.steps.specs.Tally.{tally_of}
 use Rattle.steps.specs.Window.{window_list, window_block, sample_of, Strips}
-use Rattle.steps.specs.Laws.Windows.{window_whole, window_block_lem}
+use Rattle.steps.proofs.Laws.Windows.{window_whole, window_block_lem}
 use Rattle.steps.specs.declared.way.Way.{Way}
 use Rattle.steps.specs.declared.rect.Window.{Window}
 use Rattle.blocks.specs.Places.{plane_at, Alike, Lies, halo_start, HaloAt}

@@ -11,7 +11,7 @@ use Rattle.rfc6386.specs.declared.Mv.{Mv}
 use Rattle.rfc6386.specs.declared.FilterSet.{FilterSet}
 use Rattle.rfc6386.specs.declared.Clips.{Clips}
 use Rattle.steps.specs.Tally.{tally_of}
-use Rattle.steps.specs.Laws.Tallies.{digits, digits_fit}
+use Rattle.steps.proofs.Laws.Tallies.{digits, digits_fit}
 use Rattle.blocks.specs.Places.{Alike}
 use Rattle.blocks.specs.Taken.{taken, block_takes}
 use Rattle.blocks.specs.declared.place.Place.{Place}

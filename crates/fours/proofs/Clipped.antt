@@ -14,8 +14,8 @@ use Rattle.rfc6386.proofs.Laws.Steps.{same_six}
 use Rattle.rfc6386.specs.declared.FilterSet.{FilterSet}
 use Rattle.steps.specs.Tally.{part, tally_of}
 use Rattle.steps.specs.Window.{window_list, along, six_down, window_clip}
-use Rattle.steps.specs.Laws.Samples.{Has, stacked_six, two_clip, across_clip, down_clip}
-use Rattle.steps.specs.Laws.Tallies.{Says, says_rows, says_both, window_tally}
+use Rattle.steps.proofs.Laws.Samples.{Has, stacked_six, two_clip, across_clip, down_clip}
+use Rattle.steps.proofs.Laws.Tallies.{Says, says_rows, says_both, window_tally}
 use Rattle.fours.proofs.Gathering.{Copies, Gathered, gathered_six}
 
 module _ (set : FilterSet) (src : List ℕ) (at pitch : ℕ) where

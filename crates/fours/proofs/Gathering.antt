@@ -15,7 +15,7 @@ use Rattle.rfc6386.specs.Picture.{six_at, step_at}
 use Rattle.rfc6386.proofs.Laws.Raster.{row_fits, within-true, length-written}
 use Rattle.rfc6386.proofs.Laws.Steps.{same_six}
 use Rattle.steps.specs.Rows.{Room}
-use Rattle.steps.specs.Laws.Copying.{within-false, written_look}
+use Rattle.steps.proofs.Laws.Copying.{within-false, written_look}
 
 -- where the copies lie in a list: n of them, of `rows` rows each
 pub record Copies : Type 0 where

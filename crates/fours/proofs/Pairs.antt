@@ -12,7 +12,7 @@ use Rattle.rfc6386.specs.Picture.{halo_sample, halo_block}
 use Rattle.rfc6386.proofs.Laws.Raster.{get_d-raster}
 use Rattle.rfc6386.specs.declared.FilterSet.{FilterSet}
 use Rattle.steps.specs.Window.{window_list, beside}
-use Rattle.steps.specs.Laws.Windows.{raster_of, window_sample_lem}
+use Rattle.steps.proofs.Laws.Windows.{raster_of, window_sample_lem}
 use Rattle.fours.proofs.Gathering.{Copies, Fit, Gathered, gathered_none, gathered_next, gathered_beside}
 use Rattle.fours.proofs.Passes.{Made}
 

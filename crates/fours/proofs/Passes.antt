@@ -17,9 +17,9 @@ use Rattle.steps.specs.declared.taps.Taps.{Taps}
 use Rattle.steps.specs.Taps.{signed_taps, Middle, two_taps}
 use Rattle.steps.specs.Rows.{laid, Low}
 use Rattle.steps.specs.Window.{window_list, along, window_sample, mix_at}
-use Rattle.steps.specs.Laws.Windows.{raster_of, window_sample_lem}
-use Rattle.steps.specs.Laws.Bytes.{a_byte}
-use Rattle.steps.specs.Laws.Samples.{Has, stacked, two_sample, across_sample, mixed_sample}
+use Rattle.steps.proofs.Laws.Windows.{raster_of, window_sample_lem}
+use Rattle.steps.proofs.Laws.Bytes.{a_byte}
+use Rattle.steps.proofs.Laws.Samples.{Has, stacked, two_sample, across_sample, mixed_sample}
 use Rattle.fours.proofs.Gathering.{Copies, Fit, Gathered, gathered-step, gathered_at}
 
 -- ---- lines

@@ -11,8 +11,8 @@ use Rattle.rfc6386.specs.Raster.{written, within}
 use Rattle.rfc6386.specs.Channel.{Channel, side, samples_in}
 use Rattle.rfc6386.proofs.Laws.Raster.{next_row, row_fits, get_d-written, length-written, written_ext, within_is}
 use Rattle.steps.specs.Rows.{Room}
-use Rattle.steps.specs.Laws.Copying.{within-false}
-use Rattle.steps.specs.Laws.Parts.{within_parts, written_rows}
+use Rattle.steps.proofs.Laws.Copying.{within-false}
+use Rattle.steps.proofs.Laws.Parts.{within_parts, written_rows}
 use Rattle.frame.specs.Frame.{Asked, cols, prediction_at, frame_sample}
 use Rattle.frame.specs.Laws.{sample_in}
 use Rattle.frame.specs.Inner.{Holds, row_part, rows_part}

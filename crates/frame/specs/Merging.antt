@@ -22,7 +22,7 @@ use Rattle.rfc6386.proofs.Merging.{merge_inside}
 use Rattle.rfc6386.proofs.Carried.{lent_at, telling_place, Unlike, results-differ}
 use Rattle.rfc6386.proofs.Laws.Raster.{length-tab, written_ext}
 use Rattle.steps.specs.Rows.{laid}
-use Rattle.steps.specs.Laws.Copying.{get_d-laid, length-laid, laid_in, either}
+use Rattle.steps.proofs.Laws.Copying.{get_d-laid, length-laid, laid_in, either}
 use Rattle.vector_bytes.specs.Bytes.{vectors_of}
 use Rattle.vector_bytes.specs.Spelled.{sixteen_spelled, spelled_is}
 use Rattle.frame.specs.Frame.{Planes, planes, References, reference, reference_code, kind_code, vectors_at, bad_order, any_bad, Asked, cols, rows, single, ordered, prediction_at, frame_sample, frame_plane, references_refusal, output_refusal, orders_refusal, frame_number, Fills}

@@ -13,7 +13,7 @@ use Rattle.rfc6386.specs.Channel.{Channel, luma, chroma_u, chroma_v, side, sampl
 use Rattle.rfc6386.proofs.Promises.{one_result}
 use Rattle.rfc6386.proofs.Laws.Raster.{row_fits, length-written, get_d-written, written_sample}
 use Rattle.rfc6386.proofs.Laws.Refusals.{done, refused, or_else-zero}
-use Rattle.steps.specs.Laws.Copying.{within_cases}
+use Rattle.steps.proofs.Laws.Copying.{within_cases}
 use Rattle.outputs.specs.Laws.{zeros}
 use Rattle.frame.specs.Frame.{Planes, reference_code, Asked, cols, rows, prediction_at, frame_sample, frame_plane, references_refusal, output_refusal, frame_number, Fills}
 use Rattle.frame.specs.Inner.{Holds}

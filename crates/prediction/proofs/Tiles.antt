@@ -25,7 +25,7 @@ use Rattle.rfc6386.specs.declared.Mv.{Mv}
 use Rattle.rfc6386.specs.declared.FilterSet.{FilterSet}
 use Rattle.rfc6386.specs.declared.Clips.{Clips}
 use Rattle.steps.specs.Tally.{part, tally_of}
-use Rattle.steps.specs.Laws.Tallies.{tally-totals}
+use Rattle.steps.proofs.Laws.Tallies.{tally-totals}
 use Rattle.blocks.specs.Taken.{taken, block_takes}
 use Rattle.blocks.specs.Laws.{takes_most}
 use Rattle.prediction.specs.Tiles.{tiles_take}

@@ -30,8 +30,8 @@ use Rattle.steps.specs.Side.{Side}
 use Rattle.steps.specs.Tally as clip
 use Rattle.steps.specs.Tally.{tally_of}
 use Rattle.steps.specs.Window.{put_at}
-use Rattle.steps.specs.Laws.Parts.{within_parts}
-use Rattle.steps.specs.Laws.Tallies.{tally-totals}
+use Rattle.steps.proofs.Laws.Parts.{within_parts}
+use Rattle.steps.proofs.Laws.Tallies.{tally-totals}
 use Rattle.blocks.specs.Taken.{taken, block_takes}
 use Rattle.prediction.specs.Tiles.{tiles_take}
 use Rattle.quarters.specs.Parts.{Square, part, OneVector, square_clips, square_takes}

@@ -15,12 +15,12 @@ use Rattle.rfc6386.proofs.Laws.Sums.{sum_ext, sum_parts}
 use Rattle.steps.specs.Rows.{laid, laid_twice, Low}
 use Rattle.steps.specs.Tally.{part, strip_tally}
 use Rattle.steps.specs.Window.{six_down, over, Strips}
-use Rattle.steps.specs.Laws.Copying.{either, laid_in, laid_out, laid_parts, length-laid}
+use Rattle.steps.proofs.Laws.Copying.{either, laid_in, laid_out, laid_parts, length-laid}
 use Rattle.steps.specs.Taps.{two_taps}
 use Rattle.steps.specs.declared.taps.Taps.{Taps}
-use Rattle.steps.specs.Laws.Twofold.{twice-first, twice-second, twice_else, length_twice}
-use Rattle.steps.specs.Laws.Samples.{stacked_six}
-use Rattle.steps.specs.Laws.Tallies.{says_both}
+use Rattle.steps.proofs.Laws.Twofold.{twice-first, twice-second, twice_else, length_twice}
+use Rattle.steps.proofs.Laws.Samples.{stacked_six}
+use Rattle.steps.proofs.Laws.Tallies.{says_both}
 
 pub strips_none : {n : ℕ} {f g : ℕ → ℕ → ℕ} {m : List ℕ} → m ≡ replicate n 0 → Strips n 0 f g m
 strips_none {n} {m = m} e =

@@ -14,7 +14,7 @@ use Rattle.steps.specs.Rows.{laid, laid_twice, Low}
 use Rattle.steps.specs.Taps.{two_taps}
 use Rattle.steps.specs.Window.{six_down, over, mix_at}
 use Rattle.steps.specs.declared.taps.Taps.{Taps}
-use Rattle.steps.specs.Laws.Copying.{within_cases, get_d-laid, length-laid, laid_in, laid_out, laid_parts}
+use Rattle.steps.proofs.Laws.Copying.{within_cases, get_d-laid, length-laid, laid_in, laid_out, laid_parts}
 use Rattle.sixteens.specs.Rolling.{Rolled, below, turn, Rolling, At, Lie, ring_six, ring_step}
 use Rattle.sixteens.specs.declared.ring.Ring.{Ring}
 

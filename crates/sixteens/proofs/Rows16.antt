@@ -8,8 +8,8 @@ use lib.ListN.{length, get_or}
 use Rattle.rfc6386.specs.Raster.{raster}
 use Rattle.rfc6386.proofs.Laws.Raster.{is-tab}
 use Rattle.steps.specs.Rows.{laid, laid_twice}
-use Rattle.steps.specs.Laws.Copying.{either, length-laid, laid_in, laid_out}
-use Rattle.steps.specs.Laws.Twofold.{twice-first, twice-second, twice_else, length_twice}
+use Rattle.steps.proofs.Laws.Copying.{either, length-laid, laid_in, laid_out}
+use Rattle.steps.proofs.Laws.Twofold.{twice-first, twice-second, twice_else, length_twice}
 
 -- ---- r rows from the first on
 pub record Filled (n : ℕ) (f : ℕ → ℕ → ℕ) (m : List ℕ) (r : ℕ) : Type 0 where

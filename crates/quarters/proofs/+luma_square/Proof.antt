@@ -8,7 +8,7 @@ use borrow.Fn.PlainCycle.{Measures, is, falls, and}
 use Rattle.rfc6386.specs.Vector.{lowering_of}
 use Rattle.rfc6386.specs.Picture.{image, block}
 use Rattle.rfc6386.specs.declared.Mv.{Mv}
-use Rattle.steps.specs.Laws.Windows.{put_as}
+use Rattle.steps.proofs.Laws.Windows.{put_as}
 use Rattle.blocks.specs.Places.{plane_at, Accepted}
 use Rattle.blocks.specs.Taken.{block_takes}
 use Rattle.blocks.specs.declared.place.Place.{Place}

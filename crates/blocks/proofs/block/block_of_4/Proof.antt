@@ -3,7 +3,7 @@ use borrow.Author.Rules.{rules}
 use mathlib.Core.Path.{refl, ◌∙◌}
 use native.Mathlib.Omega.{arith}
 use Rattle.rfc6386.proofs.Laws.Blocks.{length-block}
-use Rattle.steps.specs.Laws.Windows.{put_whole}
+use Rattle.steps.proofs.Laws.Windows.{put_whole}
 use Rattle.blocks.proofs.block.block_of_4.Statement.{statement}
 use Rattle.blocks.proofs.block.block_of_4.Tie as tie
 

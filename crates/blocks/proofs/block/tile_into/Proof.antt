@@ -7,7 +7,7 @@ use Rattle.rfc6386.proofs.Laws.Refusals.{PlaneAccepts, plane_accepts}
 use Rattle.rfc6386.proofs.Laws.Samples.{Bytes}
 use Rattle.rfc6386.proofs.Laws.Blocks.{image_bytes}
 use Rattle.rfc6386.proofs.Laws.Halos.{whole-block}
-use Rattle.steps.specs.Laws.Windows.{put_as}
+use Rattle.steps.proofs.Laws.Windows.{put_as}
 use Rattle.blocks.specs.Places.{plane_at, HaloAt}
 use Rattle.blocks.proofs.Fetches.{under_x, under_y}
 use Rattle.blocks.proofs.Windows.{way_mx, way_my, way_block, near_held, near_window, far_size, far_window, pixels_size, takes-pixels, takes-halo, few_fetched}

@@ -5,7 +5,7 @@ use Prim.Native.Nat.{◌+◌}
 use native.Mathlib.Omega.{arith}
 use lib.ListN.{length}
 use Rattle.rfc6386.proofs.Laws.Halos.{whole-block}
-use Rattle.steps.specs.Laws.Windows.{put_as, put_left, put_right, length-beside}
+use Rattle.steps.proofs.Laws.Windows.{put_as, put_left, put_right, length-beside}
 use Rattle.blocks.proofs.Windows.{pixels_size, takes-pixels, few_fetched}
 use Rattle.blocks.proofs.chroma.pair_into.Statement.{statement}
 use Rattle.blocks.proofs.chroma.pair_into.Tie as tie

@@ -14,8 +14,8 @@ use Rattle.rfc6386.proofs.Laws.Samples.{Bytes}
 use Rattle.rfc6386.proofs.Laws.Blocks.{image_bytes}
 use Rattle.rfc6386.proofs.Laws.Halos.{whole-block}
 use Rattle.steps.specs.Window.{window_list}
-use Rattle.steps.specs.Laws.Windows.{put_as}
-use Rattle.steps.specs.Laws.Parts.{side_least, side_most}
+use Rattle.steps.proofs.Laws.Windows.{put_as}
+use Rattle.steps.proofs.Laws.Parts.{side_least, side_most}
 use Rattle.blocks.specs.Places.{plane_at, HaloAt, halo_start, clamped_rect}
 use Rattle.blocks.proofs.Squares.{corner_is}
 use Rattle.blocks.proofs.Fetches.{under_x, under_y}

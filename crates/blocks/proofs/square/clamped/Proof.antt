@@ -11,7 +11,7 @@ use Rattle.signed.specs.Held.{par}
 use Rattle.rfc6386.specs.Picture.{image}
 use Rattle.rfc6386.proofs.Laws.Raster.{row_fits}
 use Rattle.blocks.specs.Places.{clamped_rect, plane_at}
-use Rattle.steps.specs.Laws.Copying.{Writing, writing_none, writing_all}
+use Rattle.steps.proofs.Laws.Copying.{Writing, writing_none, writing_all}
 use Rattle.blocks.proofs.Squares.{near_as, in_plane_lem, clamped_more}
 use Rattle.blocks.proofs.square.clamped.Statement.{statement}
 use Rattle.blocks.proofs.square.clamped.Tie as tie

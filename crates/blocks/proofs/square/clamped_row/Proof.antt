@@ -10,7 +10,7 @@ use mir.Facts.{to_z-of_z}
 use Rattle.signed.specs.Held.{par}
 use Rattle.rfc6386.specs.Number.{clamped}
 use Rattle.blocks.specs.Places.{clamped_row}
-use Rattle.steps.specs.Laws.Copying.{Laying, laying_none, laying_more, laying_all}
+use Rattle.steps.proofs.Laws.Copying.{Laying, laying_none, laying_more, laying_all}
 use Rattle.blocks.proofs.Squares.{near_as}
 use Rattle.blocks.proofs.square.clamped_row.Statement.{statement}
 use Rattle.blocks.proofs.square.clamped_row.Tie as tie

@@ -8,7 +8,7 @@ use Rattle.signed.specs.Held.{Held, lit, sub, sub_need}
 use Rattle.rfc6386.specs.Vector.{whole_part}
 use Rattle.rfc6386.proofs.Laws.Refusals.{plane_accepts}
 use Rattle.blocks.proofs.Squares.{square_as}
-use Rattle.steps.specs.Laws.Windows.{put_as}
+use Rattle.steps.proofs.Laws.Windows.{put_as}
 use Rattle.blocks.proofs.Windows.{fetched_alike}
 use Rattle.blocks.proofs.Fetches.{placed, under_x, under_y, source_of}
 use Rattle.blocks.proofs.square.fetch_halo.Statement.{statement}

@@ -2,7 +2,7 @@
 use borrow.Author.Rules.{rules}
 use mathlib.Core.Path.{refl, ◌∙◌}
 use native.Mathlib.Omega.{arith}
-use Rattle.steps.specs.Laws.Windows.{put_whole}
+use Rattle.steps.proofs.Laws.Windows.{put_whole}
 use Rattle.blocks.proofs.Squares.{square_size}
 use Rattle.blocks.proofs.square.pixels_of_8.Statement.{statement}
 use Rattle.blocks.proofs.square.pixels_of_8.Tie as tie

@@ -5,8 +5,8 @@ use mathlib.Core.List.{List}
 use native.Mathlib.Omega.{arith}
 use Prim.Native.Nat.{ℕ}
 use Rattle.rfc6386.specs.Picture.{halo_block}
-use Rattle.steps.specs.Laws.Windows.{window_whole, block_as, put_whole, length-halo_block}
-use Rattle.steps.specs.Laws.Tallies.{whole_tally, own_tally}
+use Rattle.steps.proofs.Laws.Windows.{window_whole, block_as, put_whole, length-halo_block}
+use Rattle.steps.proofs.Laws.Tallies.{whole_tally, own_tally}
 use Rattle.filters.proofs.halos.filter_4.Statement.{statement}
 use Rattle.filters.proofs.halos.filter_4.Tie as tie
 

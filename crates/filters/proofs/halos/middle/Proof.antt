@@ -8,8 +8,8 @@ use lib.ListN.{length, get_or}
 use Rattle.rfc6386.specs.Picture.{halo_block}
 use Rattle.rfc6386.proofs.Laws.Raster.{row_fits, written_all}
 use Rattle.steps.specs.Rows.{Room, Held}
-use Rattle.steps.specs.Laws.Windows.{window_whole, window_block_lem}
-use Rattle.steps.specs.Laws.Samples.{middle_sample}
+use Rattle.steps.proofs.Laws.Windows.{window_whole, window_block_lem}
+use Rattle.steps.proofs.Laws.Samples.{middle_sample}
 use Rattle.filters.proofs.halos.middle.Statement.{statement}
 use Rattle.filters.proofs.halos.middle.Tie as tie
 

@@ -4,7 +4,7 @@ use borrow.Author.Tests.{lt-ltb, le-ltb}
 use native.Mathlib.Omega.{arith}
 use Rattle.rfc6386.specs.Refusal.{if_done}
 use Rattle.rfc6386.specs.Block.{filtered8}
-use Rattle.steps.specs.Laws.Tallies.{halo_fit, halo-digits}
+use Rattle.steps.proofs.Laws.Tallies.{halo_fit, halo-digits}
 use Rattle.filters.proofs.halos.sixtap_mb_chroma.Statement.{statement}
 use Rattle.filters.proofs.halos.sixtap_mb_chroma.Tie as tie
 

@@ -12,10 +12,10 @@ use Rattle.rfc6386.proofs.Laws.Raster.{get_d-raster, written_ext}
 use Rattle.rfc6386.specs.declared.FilterSet.{FilterSet}
 use Rattle.steps.specs.Rows.{Room}
 use Rattle.steps.specs.Window.{window_list, window_sample, put_at, Strips}
-use Rattle.steps.specs.Laws.Windows.{window_sample_lem, held_down}
-use Rattle.steps.specs.Laws.Parts.{written_rows}
-use Rattle.steps.specs.Laws.Samples.{lower_sample}
-use Rattle.steps.specs.Laws.Tallies.{window_tally, lower_tally}
+use Rattle.steps.proofs.Laws.Windows.{window_sample_lem, held_down}
+use Rattle.steps.proofs.Laws.Parts.{written_rows}
+use Rattle.steps.proofs.Laws.Samples.{lower_sample}
+use Rattle.steps.proofs.Laws.Tallies.{window_tally, lower_tally}
 use Rattle.filters.proofs.sided.filter_eight.Statement.{statement}
 use Rattle.filters.proofs.sided.filter_eight.Tie as tie
 

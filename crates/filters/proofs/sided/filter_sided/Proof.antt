@@ -8,9 +8,9 @@ use lib.ListN.{length}
 use Rattle.steps.specs.Rows.{Room, Held}
 use Rattle.steps.specs.Tally.{tally_of}
 use Rattle.steps.specs.Window.{put_at, window_block, window_clips}
-use Rattle.steps.specs.Laws.Parts.{third}
-use Rattle.steps.specs.Laws.Windows.{put_as, block_as, length-halo_block}
-use Rattle.steps.specs.Laws.Tallies.{whole_tally}
+use Rattle.steps.proofs.Laws.Parts.{third}
+use Rattle.steps.proofs.Laws.Windows.{put_as, block_as, length-halo_block}
+use Rattle.steps.proofs.Laws.Tallies.{whole_tally}
 use Rattle.steps.specs.declared.rect.Window.{Window}
 use Rattle.steps.specs.declared.way.Way.{Way}
 use Rattle.filters.proofs.sided.filter_sided.Statement.{statement}

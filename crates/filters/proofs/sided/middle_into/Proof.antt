@@ -12,9 +12,9 @@ use Rattle.rfc6386.proofs.Laws.Raster.{get_d-raster, written_ext}
 use Rattle.rfc6386.specs.declared.FilterSet.{FilterSet}
 use Rattle.steps.specs.Rows.{Held}
 use Rattle.steps.specs.Window.{window_list, window_sample, put_at}
-use Rattle.steps.specs.Laws.Parts.{side_least}
-use Rattle.steps.specs.Laws.Windows.{window_sample_lem}
-use Rattle.steps.specs.Laws.Samples.{middle_sample}
+use Rattle.steps.proofs.Laws.Parts.{side_least}
+use Rattle.steps.proofs.Laws.Windows.{window_sample_lem}
+use Rattle.steps.proofs.Laws.Samples.{middle_sample}
 use Rattle.filters.proofs.sided.middle_into.Statement.{statement}
 use Rattle.filters.proofs.sided.middle_into.Tie as tie
 

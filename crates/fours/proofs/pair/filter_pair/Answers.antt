@@ -1,6 +1,6 @@
 -- Two taps clip nothing.
 use Rattle.std.proofs.Common.{sym, ap₂, ◌+◌, arith}
-use Rattle.steps.specs.Laws.Tallies.{window_bilinear}
+use Rattle.steps.proofs.Laws.Tallies.{window_bilinear}
 use Rattle.fours.proofs.pair.filter_pair.Goals as goal
 
 pub returns-in-Bilinear-clause-tally_after : goal.returns-in-Bilinear-clause-tally_after

@@ -1,6 +1,6 @@
 -- Two copies of each window's middle side by side, and both passes of two taps over them.
 use Rattle.std.proofs.Common.{refl, arith, ℕ, ◌+◌, ◌*◌, ◌<◌, get_or}
-use Rattle.steps.specs.Laws.Mixing.{middle}
+use Rattle.steps.proofs.Laws.Mixing.{middle}
 use Rattle.fours.proofs.Passes.{laid_size, mixed_of, first_mixed, both_mixed}
 use Rattle.fours.proofs.Pairs.{left_fit, right_fit, Paired, paired_none, paired_more, pair_of}
 use Rattle.fours.proofs.pair.mixed.Goals as goal

@@ -1,6 +1,6 @@
 -- Two taps clip nothing.
 use Rattle.std.proofs.Common.{sym, arith}
-use Rattle.steps.specs.Laws.Tallies.{window_bilinear}
+use Rattle.steps.proofs.Laws.Tallies.{window_bilinear}
 use Rattle.fours.proofs.tile.filter_tile.Goals as goal
 
 pub returns-in-Bilinear-clause-value : goal.returns-in-Bilinear-clause-value

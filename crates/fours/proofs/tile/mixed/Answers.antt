@@ -1,6 +1,6 @@
 -- Two copies of the window's middle, and both passes of two taps over them.
 use Rattle.std.proofs.Common.{refl, arith, ℕ, ◌+◌, ◌*◌, ◌<◌, get_or}
-use Rattle.steps.specs.Laws.Mixing.{middle}
+use Rattle.steps.proofs.Laws.Mixing.{middle}
 use Rattle.fours.proofs.Gathering.{Copies, Fit, Gathered, gathered_none, gathered_next}
 use Rattle.fours.proofs.Passes.{laid_size, mixed_of, first_mixed, both_mixed, block_of}
 use Rattle.fours.proofs.tile.mixed.Goals as goal

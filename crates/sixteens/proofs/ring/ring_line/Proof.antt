@@ -5,8 +5,8 @@ use native.Mathlib.Omega.{arith}
 use lib.ListN.{length-set}
 use Rattle.steps.specs.Tally.{part}
 use Rattle.steps.specs.Taps.{signed_taps}
-use Rattle.steps.specs.Laws.Twofold.{Twice, twice_none, twice_more, twice_all}
-use Rattle.steps.specs.Laws.Tallies.{part_small}
+use Rattle.steps.proofs.Laws.Twofold.{Twice, twice_none, twice_more, twice_all}
+use Rattle.steps.proofs.Laws.Tallies.{part_small}
 use Rattle.sixteens.specs.Rolling.{ring_step, ring_clip}
 use Rattle.sixteens.proofs.Lanes.{Adding, adding_none, adding_more, adding_all}
 use Rattle.sixteens.proofs.ring.ring_line.Statement.{statement}

@@ -3,7 +3,7 @@ use mathlib.Core.Path.{refl}
 use Prim.Native.Nat.{◌-◌, ◌*◌, ◌≤◌}
 use native.Mathlib.Omega.{arith}
 use lib.ListN.{get_or}
-use Rattle.steps.specs.Laws.Tallies.{Tallying, tallying_none, tallying_more, tallying_all}
+use Rattle.steps.proofs.Laws.Tallies.{Tallying, tallying_none, tallying_more, tallying_all}
 use Rattle.sixteens.proofs.ring.total.Statement.{statement}
 use Rattle.sixteens.proofs.ring.total.Tie as tie
 

@@ -13,9 +13,9 @@ use Rattle.rfc6386.specs.declared.FilterSet.TheVariants.{Sixtap}
 use Rattle.steps.specs.Tally.{part}
 use Rattle.steps.specs.Taps.{signed_taps}
 use Rattle.steps.specs.Window.{along, six_down, over}
-use Rattle.steps.specs.Laws.Windows.{window_block_lem}
-use Rattle.steps.specs.Laws.Samples.{two_sample, two_clip}
-use Rattle.steps.specs.Laws.Tallies.{part_le, window_tally}
+use Rattle.steps.proofs.Laws.Windows.{window_block_lem}
+use Rattle.steps.proofs.Laws.Samples.{two_sample, two_clip}
+use Rattle.steps.proofs.Laws.Tallies.{part_le, window_tally}
 use Rattle.sixteens.specs.Rolling.{Rolling, At}
 use Rattle.sixteens.proofs.Rolls.{rolling_more, rolling_down, ring_turned, ring_lies, ring_six_lem, ring_row, lie_in}
 use Rattle.sixteens.proofs.Rows16.{Filled, filled_none, filled_row, filled-raster}

@@ -4,7 +4,7 @@ use mathlib.Core.Path.{refl, sym, ap, ap₂, ◌∙◌}
 use Prim.Native.Nat.{◌+◌}
 use Rattle.rfc6386.specs.declared.FilterSet.{FilterSet}
 use Rattle.steps.specs.Window.{window_sample, window_clip}
-use Rattle.steps.specs.Laws.Tallies.{strip_ext, rows_bilinear}
+use Rattle.steps.proofs.Laws.Tallies.{strip_ext, rows_bilinear}
 use Rattle.sixteens.proofs.Halves.{strips_as}
 use Rattle.sixteens.proofs.strips.filter_strips.Statement.{statement}
 use Rattle.sixteens.proofs.strips.filter_strips.Tie as tie

@@ -4,7 +4,7 @@ use native.Mathlib.Omega.{arith}
 use lib.ListN.{length-set}
 use Rattle.rfc6386.specs.Picture.{step_at}
 use Rattle.steps.specs.Taps.{signed_taps}
-use Rattle.steps.specs.Laws.Twofold.{Twice, twice_none, twice_more, twice_all}
+use Rattle.steps.proofs.Laws.Twofold.{Twice, twice_none, twice_more, twice_all}
 use Rattle.sixteens.proofs.strips.first_row.Statement.{statement}
 use Rattle.sixteens.proofs.strips.first_row.Tie as tie
 

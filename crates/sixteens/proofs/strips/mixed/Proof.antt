@@ -6,8 +6,8 @@ use native.Mathlib.Nat.{add-mul}
 use native.Mathlib.Omega.{arith}
 use lib.ListN.{length}
 use Rattle.steps.specs.Window.{mix_at, Strips}
-use Rattle.steps.specs.Laws.Mixing.{middle}
-use Rattle.steps.specs.Laws.Samples.{mixed_sample}
+use Rattle.steps.proofs.Laws.Mixing.{middle}
+use Rattle.steps.proofs.Laws.Samples.{mixed_sample}
 use Rattle.sixteens.proofs.Halves.{strips_none, strips_more, strips_mixed, strips_as}
 use Rattle.sixteens.proofs.strips.mixed.Statement.{statement}
 use Rattle.sixteens.proofs.strips.mixed.Tie as tie

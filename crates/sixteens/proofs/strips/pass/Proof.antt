@@ -12,7 +12,7 @@ use Rattle.rfc6386.proofs.Laws.Sums.{sum_add}
 use Rattle.steps.specs.Tally.{part}
 use Rattle.steps.specs.Taps.{signed_taps}
 use Rattle.steps.specs.Window.{Strips}
-use Rattle.steps.specs.Laws.Tallies.{parts_le, Tallying, tallying_none, tallying_more, tallying_room, tallying_all}
+use Rattle.steps.proofs.Laws.Tallies.{parts_le, Tallying, tallying_none, tallying_more, tallying_room, tallying_all}
 use Rattle.sixteens.proofs.Halves.{strips_none, strips_more, strips_as}
 use Rattle.sixteens.proofs.strips.pass.Statement.{statement}
 use Rattle.sixteens.proofs.strips.pass.Tie as tie

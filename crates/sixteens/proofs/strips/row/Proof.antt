@@ -9,8 +9,8 @@ use Rattle.rfc6386.proofs.Laws.Sums.{sum_add}
 use Rattle.rfc6386.specs.declared.Clip.{Clip}
 use Rattle.steps.specs.Tally.{part}
 use Rattle.steps.specs.Taps.{signed_taps}
-use Rattle.steps.specs.Laws.Twofold.{Twice, twice_none, twice_more, twice_all}
-use Rattle.steps.specs.Laws.Tallies.{part_le, part_small, Tallying, tallying_none, tallying_more, tallying_room, tallying_all}
+use Rattle.steps.proofs.Laws.Twofold.{Twice, twice_none, twice_more, twice_all}
+use Rattle.steps.proofs.Laws.Tallies.{part_le, part_small, Tallying, tallying_none, tallying_more, tallying_room, tallying_all}
 use Rattle.sixteens.proofs.strips.row.Statement.{statement}
 use Rattle.sixteens.proofs.strips.row.Tie as tie
 

@@ -11,9 +11,9 @@ use Rattle.rfc6386.specs.Picture.{step_at}
 use Rattle.rfc6386.specs.Clips.{clip_at}
 use Rattle.rfc6386.specs.declared.FilterSet.TheVariants.{Sixtap}
 use Rattle.steps.specs.Window.{window_sample, window_clip}
-use Rattle.steps.specs.Laws.Windows.{held_third, held_columns, held_lines}
-use Rattle.steps.specs.Laws.Samples.{across_sample, down_sample, across_clip, down_clip}
-use Rattle.steps.specs.Laws.Tallies.{strip_ext}
+use Rattle.steps.proofs.Laws.Windows.{held_third, held_columns, held_lines}
+use Rattle.steps.proofs.Laws.Samples.{across_sample, down_sample, across_clip, down_clip}
+use Rattle.steps.proofs.Laws.Tallies.{strip_ext}
 use Rattle.sixteens.proofs.Halves.{strips_as}
 use Rattle.sixteens.proofs.strips.six_strips.Statement.{statement}
 use Rattle.sixteens.proofs.strips.six_strips.Tie as tie

@@ -8,8 +8,8 @@ use Rattle.rfc6386.proofs.Laws.Steps.{step_le}
 use Rattle.rfc6386.specs.declared.FilterSet.TheVariants.{Sixtap}
 use Rattle.steps.specs.Taps.{signed_taps}
 use Rattle.steps.specs.Window.{along, Strips}
-use Rattle.steps.specs.Laws.Samples.{two_sample, two_clip}
-use Rattle.steps.specs.Laws.Tallies.{strip_ext}
+use Rattle.steps.proofs.Laws.Samples.{two_sample, two_clip}
+use Rattle.steps.proofs.Laws.Tallies.{strip_ext}
 use Rattle.sixteens.proofs.Halves.{strips_none, strips_more, strips_low, strips_down, strips_tally, strips_as}
 use Rattle.sixteens.proofs.strips.two.Statement.{statement}
 use Rattle.sixteens.proofs.strips.two.Tie as tie

@@ -2,8 +2,8 @@
 use borrow.Author.Rules.{rules}
 use mathlib.Core.Path.{refl, sym, ap, ◌∙◌}
 use Rattle.steps.specs.Tally.{tally_of}
-use Rattle.steps.specs.Laws.Windows.{block_as, clips_as}
-use Rattle.steps.specs.Laws.Tallies.{window_bilinear}
+use Rattle.steps.proofs.Laws.Windows.{block_as, clips_as}
+use Rattle.steps.proofs.Laws.Tallies.{window_bilinear}
 use Rattle.sixteens.proofs.wide.filter_wide.Statement.{statement}
 use Rattle.sixteens.proofs.wide.filter_wide.Tie as tie
 

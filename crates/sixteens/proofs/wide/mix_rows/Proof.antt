@@ -3,7 +3,7 @@ use Prim.Native.Nat.{◌+◌, ◌-◌}
 use native.Mathlib.Omega.{arith}
 use lib.ListN.{get_or, length-set}
 use Rattle.steps.specs.Taps.{two_taps}
-use Rattle.steps.specs.Laws.Twofold.{Twice, twice_none, twice_more, twice_all}
+use Rattle.steps.proofs.Laws.Twofold.{Twice, twice_none, twice_more, twice_all}
 use Rattle.sixteens.proofs.wide.mix_rows.Statement.{statement}
 use Rattle.sixteens.proofs.wide.mix_rows.Tie as tie
 

@@ -9,9 +9,9 @@ use lib.ListN.{length, get_or}
 use Rattle.rfc6386.specs.declared.FilterSet.TheVariants.{Bilinear}
 use Rattle.steps.specs.Taps.{two_taps}
 use Rattle.steps.specs.Window.{mix_at}
-use Rattle.steps.specs.Laws.Windows.{window_block_lem, held_third, held_next_column}
-use Rattle.steps.specs.Laws.Mixing.{middle}
-use Rattle.steps.specs.Laws.Samples.{mixed_sample}
+use Rattle.steps.proofs.Laws.Windows.{window_block_lem, held_third, held_next_column}
+use Rattle.steps.proofs.Laws.Mixing.{middle}
+use Rattle.steps.proofs.Laws.Samples.{mixed_sample}
 use Rattle.sixteens.proofs.Rolls.{Five, five-next, five-step, mix_first, mix_more}
 use Rattle.sixteens.proofs.Rows16.{Filled, filled_none, filled_more, filled-raster}
 use Rattle.sixteens.proofs.wide.mixed.Statement.{statement}

@@ -6,9 +6,9 @@ use native.Mathlib.Omega.{arith}
 use Rattle.rfc6386.specs.Picture.{halo_block}
 use Rattle.rfc6386.specs.declared.FilterSet.TheVariants.{Bilinear}
 use Rattle.steps.specs.Window.{window_list}
-use Rattle.steps.specs.Laws.Windows.{window_block_lem, held_third, held_next-row, held_next_column}
-use Rattle.steps.specs.Laws.Mixing.{middle}
-use Rattle.steps.specs.Laws.Samples.{mix_across_sample, mix_down_sample}
+use Rattle.steps.proofs.Laws.Windows.{window_block_lem, held_third, held_next-row, held_next_column}
+use Rattle.steps.proofs.Laws.Mixing.{middle}
+use Rattle.steps.proofs.Laws.Samples.{mix_across_sample, mix_down_sample}
 use Rattle.sixteens.proofs.wide.mixed_wide.Statement.{statement}
 use Rattle.sixteens.proofs.wide.mixed_wide.Tie as tie
 

@@ -2,7 +2,7 @@
 use Prim.Native.Nat.{◌+◌, ◌-◌}
 use native.Mathlib.Omega.{arith}
 use lib.ListN.{get_or}
-use Rattle.steps.specs.Laws.Copying.{Laying, laying_none, laying_more, laying_all}
+use Rattle.steps.proofs.Laws.Copying.{Laying, laying_none, laying_more, laying_all}
 use Rattle.sixteens.proofs.wide.move_row.Statement.{statement}
 use Rattle.sixteens.proofs.wide.move_row.Tie as tie
 

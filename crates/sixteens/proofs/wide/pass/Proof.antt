@@ -10,7 +10,7 @@ use Rattle.rfc6386.specs.Sums.{sum_to}
 use Rattle.rfc6386.specs.Clips.{clip_at}
 use Rattle.steps.specs.Tally.{part}
 use Rattle.steps.specs.Taps.{signed_taps}
-use Rattle.steps.specs.Laws.Tallies.{parts_le, Tallying, tallying_none, tallying_more, tallying_room, tallying_all}
+use Rattle.steps.proofs.Laws.Tallies.{parts_le, Tallying, tallying_none, tallying_more, tallying_room, tallying_all}
 use Rattle.sixteens.proofs.Rows16.{Filled, filled_none, filled_row, filled-raster}
 use Rattle.sixteens.proofs.wide.pass.Statement.{statement}
 use Rattle.sixteens.proofs.wide.pass.Tie as tie

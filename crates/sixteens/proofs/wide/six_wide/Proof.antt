@@ -5,9 +5,9 @@ use native.Mathlib.Omega.{arith}
 use Rattle.rfc6386.proofs.Laws.Sums.{rows_ext}
 use Rattle.rfc6386.specs.declared.FilterSet.TheVariants.{Sixtap}
 use Rattle.steps.specs.Tally.{part, tally_of}
-use Rattle.steps.specs.Laws.Windows.{window_block_lem, held_third, held_columns, held_lines, block_as, clips_as}
-use Rattle.steps.specs.Laws.Samples.{across_sample, down_sample, across_clip, down_clip}
-use Rattle.steps.specs.Laws.Tallies.{window_tally}
+use Rattle.steps.proofs.Laws.Windows.{window_block_lem, held_third, held_columns, held_lines, block_as, clips_as}
+use Rattle.steps.proofs.Laws.Samples.{across_sample, down_sample, across_clip, down_clip}
+use Rattle.steps.proofs.Laws.Tallies.{window_tally}
 use Rattle.sixteens.proofs.wide.six_wide.Statement.{statement}
 use Rattle.sixteens.proofs.wide.six_wide.Tie as tie
 

@@ -2,7 +2,7 @@
 use Rattle.std.proofs.Common.{◌+◌, ◌-◌}
 use Rattle.rfc6386.specs.Picture.{step_at}
 use Rattle.steps.specs.Taps.{signed_taps}
-use Rattle.steps.specs.Laws.Copying.{Laying}
+use Rattle.steps.proofs.Laws.Copying.{Laying}
 use Rattle.steps.proofs.lines.first_line.Given as goal
 
 abbrev pub invariant-loop-i : goal.invariant-loop-i

@@ -2,8 +2,8 @@
 use Rattle.std.proofs.Common.{◌+◌, arith}
 use Rattle.rfc6386.specs.Clips.{clip_at}
 use Rattle.steps.specs.Taps.{signed_taps}
-use Rattle.steps.specs.Laws.Copying.{laying_none, laying_more, laying_all}
-use Rattle.steps.specs.Laws.Tallies.{part_le, tallying_none, tallying_more, tallying_room, tallying_all}
+use Rattle.steps.proofs.Laws.Copying.{laying_none, laying_more, laying_all}
+use Rattle.steps.proofs.Laws.Tallies.{part_le, tallying_none, tallying_more, tallying_room, tallying_all}
 use Rattle.steps.proofs.lines.line.Goals as goal
 
 pub overflow_add-tally : goal.overflow_add-tally

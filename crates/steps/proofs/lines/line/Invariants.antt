@@ -4,8 +4,8 @@ use Rattle.rfc6386.specs.Picture.{step_at}
 use Rattle.rfc6386.specs.Clips.{clip_at}
 use Rattle.steps.specs.Tally.{part}
 use Rattle.steps.specs.Taps.{signed_taps}
-use Rattle.steps.specs.Laws.Copying.{Laying}
-use Rattle.steps.specs.Laws.Tallies.{Tallying}
+use Rattle.steps.proofs.Laws.Copying.{Laying}
+use Rattle.steps.proofs.Laws.Tallies.{Tallying}
 use Rattle.steps.proofs.lines.line.Given as goal
 
 abbrev pub invariant-loop-i : goal.invariant-loop-i

@@ -1,5 +1,5 @@
 -- The loop lays the steps, one a turn, by the laws of `Laying`.
-use Rattle.steps.specs.Laws.Copying.{laying_none, laying_more, laying_all}
+use Rattle.steps.proofs.Laws.Copying.{laying_none, laying_more, laying_all}
 use Rattle.steps.proofs.lines.mix_line.Goals as goal
 
 pub loop-i-init : goal.loop-i-init

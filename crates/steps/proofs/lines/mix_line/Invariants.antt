@@ -1,7 +1,7 @@
 -- The loop lays the steps, one a turn.
 use Rattle.std.proofs.Common.{◌+◌, ◌-◌, get_or}
 use Rattle.steps.specs.Taps.{two_taps}
-use Rattle.steps.specs.Laws.Copying.{Laying}
+use Rattle.steps.proofs.Laws.Copying.{Laying}
 use Rattle.steps.proofs.lines.mix_line.Given as goal
 
 abbrev pub invariant-loop-i : goal.invariant-loop-i

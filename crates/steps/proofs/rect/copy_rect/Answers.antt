@@ -1,6 +1,6 @@
 -- The loop writes the rows, one a turn, by the laws of `Writing`. `Room` has `some`, one column or more: with none, a stride of 0 would fit any
 -- row, and y + r could wrap.
-use Rattle.steps.specs.Laws.Copying.{writing_none, writing_more, writing_all}
+use Rattle.steps.proofs.Laws.Copying.{writing_none, writing_more, writing_all}
 use Rattle.steps.proofs.rect.copy_rect.Goals as goal
 
 pub loop-r-init : goal.loop-r-init

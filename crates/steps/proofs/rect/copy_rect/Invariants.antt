@@ -1,6 +1,6 @@
 -- The loop writes the rows, one a turn.
 use Rattle.std.proofs.Common.{◌+◌, ◌-◌, ◌*◌, get_or}
-use Rattle.steps.specs.Laws.Copying.{Writing}
+use Rattle.steps.proofs.Laws.Copying.{Writing}
 use Rattle.steps.proofs.rect.copy_rect.Given as goal
 
 abbrev pub invariant-loop-r : goal.invariant-loop-r

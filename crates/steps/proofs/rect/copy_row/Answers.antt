@@ -1,6 +1,6 @@
 -- The loop lays the row, one sample a turn, by the laws of `Laying`.
 use Rattle.std.proofs.Common.{refl}
-use Rattle.steps.specs.Laws.Copying.{laying_none, laying_more, laying_all}
+use Rattle.steps.proofs.Laws.Copying.{laying_none, laying_more, laying_all}
 use Rattle.steps.proofs.rect.copy_row.Goals as goal
 
 pub loop-c-init : goal.loop-c-init

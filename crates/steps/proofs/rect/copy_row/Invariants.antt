@@ -1,6 +1,6 @@
 -- The loop lays the row, one sample a turn.
 use Rattle.std.proofs.Common.{◌+◌, ◌-◌, get_or}
-use Rattle.steps.specs.Laws.Copying.{Laying}
+use Rattle.steps.proofs.Laws.Copying.{Laying}
 use Rattle.steps.proofs.rect.copy_row.Given as goal
 
 abbrev pub invariant-loop-c : goal.invariant-loop-c

@@ -7,7 +7,7 @@ use Rattle.rfc6386.specs.Clips.{clip_of, step_clip}
 use Rattle.rfc6386.proofs.Laws.Steps.{plus_of, minus_of, step_le}
 use Rattle.steps.specs.Tally.{part}
 use Rattle.steps.specs.Taps.{sizes_of, signed_taps, Small}
-use Rattle.steps.specs.Laws.Counting.{rounded_is}
+use Rattle.steps.proofs.Laws.Counting.{rounded_is}
 use Rattle.steps.specs.declared.taps.Taps.{Taps}
 use Rattle.steps.proofs.step.counted.Goals as goal
 

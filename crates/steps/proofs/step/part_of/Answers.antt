@@ -4,7 +4,7 @@ use Rattle.std.specs.Int.Bits.{bit_and}
 use Rattle.std.specs.Int.Signed.{shr_z}
 use lib.Bits.{and_le_r}
 use Rattle.signed.specs.Held.{Held, par_in, nat_at, nat}
-use Rattle.steps.specs.Laws.Counting.{part_is}
+use Rattle.steps.proofs.Laws.Counting.{part_is}
 use Rattle.steps.proofs.step.part_of.Goals as goal
 
 pub returns : goal.returns

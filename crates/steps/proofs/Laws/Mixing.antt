@@ -2,7 +2,7 @@
 use Rattle.std.specs.Prelude.{◌≡◌, refl, [], ◌∷◌, ℕ, zero, suc, ◌+◌, ◌*◌, ◌<◌, ◌≤◌, nat_abs}
 use Rattle.std.proofs.Common.{sym, ap, ap₂, ◌∙◌, subst, mul-le-mul_left, arith}
 use Rattle.rfc6386.specs.Filter.{less, taps_of, step}
-use Rattle.rfc6386.proofs.Laws.Steps as steps
+use Rattle.rfc6386.specs.Taps as taps
 use Rattle.rfc6386.specs.Taps.{Sizes, signed, added, taken}
 use Rattle.rfc6386.proofs.Laws.Steps.{below, row_of, step_is}
 use Rattle.rfc6386.specs.declared.FilterSet.TheVariants.{Bilinear}
@@ -34,7 +34,7 @@ size_less : (n : ℕ) → nat_abs (less n) ≡ n
 size_less zero = refl
 size_less (suc n) = refl
 
-sizes_are : (t : Taps) → steps.sizes_of (signed_taps t) ≡ sizes_of t
+sizes_are : (t : Taps) → taps.sizes_of (signed_taps t) ≡ sizes_of t
 unfolding signed
 sizes_are t = ap₂ (λ (b e : ℕ). record { a = t.a; b = b; c = t.c; d = t.d; e = e; f = t.f }) (size_less t.b) (size_less t.e)
 
@@ -44,8 +44,8 @@ Outer s = s.a + s.b + s.e + s.f ≡ 0
 pub middle : (k : ℕ) (t : Taps) → k < 8 → signed_taps t ≡ taps_of Bilinear k → Middle t
 unfolding taps_of
 middle k t h e =
-    let q : steps.sizes_of (taps_of Bilinear k) ≡ sizes_of t = ap steps.sizes_of (sym e) ∙ sizes_are t in
-    let o = below (λ k. Outer (steps.sizes_of (taps_of Bilinear k))) 8 (refl, (refl, (refl, (refl, (refl, (refl, (refl, (refl, tt)))))))) k h in
+    let q : taps.sizes_of (taps_of Bilinear k) ≡ sizes_of t = ap taps.sizes_of (sym e) ∙ sizes_are t in
+    let o = below (λ k. Outer (taps.sizes_of (taps_of Bilinear k))) 8 (refl, (refl, (refl, (refl, (refl, (refl, (refl, (refl, tt)))))))) k h in
     let i = subst (λ (s : Sizes). added s ≡ 128 + taken s) q (row_of Bilinear k h).balanced in
     let p = subst Outer q o in
     record { outer = p; inner = omega arith }

@@ -13,8 +13,8 @@ use Rattle.rfc6386.specs.declared.Clip.TheVariants.{Low, High, None}
 use Rattle.rfc6386.specs.declared.Clips.{Clips}
 use Rattle.steps.specs.Tally.{part, tally_of, strip_tally}
 use Rattle.steps.specs.Window.{window_list, window_clip}
-use Rattle.steps.specs.Laws.Windows.{window_whole, window_clip_lem, clips_as}
-use Rattle.steps.specs.Laws.Samples.{lower_clip}
+use Rattle.steps.proofs.Laws.Windows.{window_whole, window_clip_lem, clips_as}
+use Rattle.steps.proofs.Laws.Samples.{lower_clip}
 
 pub part_le : (c : Clip) → part c ≤ 513
 part_le Low = omega arith

@@ -17,7 +17,7 @@ use Rattle.rfc6386.specs.declared.FilterSet.TheVariants.{Bilinear}
 use Rattle.steps.specs.Taps.{signed_taps, Middle, two_taps}
 use Rattle.steps.specs.Window.{along, six_down, over, window_sample, window_clip, mix_at}
 use Rattle.steps.specs.declared.taps.Taps.{Taps}
-use Rattle.steps.specs.Laws.Mixing.{two_taps_lem}
+use Rattle.steps.proofs.Laws.Mixing.{two_taps_lem}
 
 -- ---- a list that has rows of g from column x on, s samples to a row
 abbrev pub Has : ℕ → ℕ → ℕ → ℕ → List ℕ → (ℕ → ℕ → ℕ) → Type 0

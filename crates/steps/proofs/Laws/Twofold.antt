@@ -3,7 +3,7 @@ use Rattle.std.specs.Prelude.{◌≡◌, refl, cond, List, ℕ, ◌+◌, ◌-◌
 use Rattle.std.proofs.Common.{sym, ◌∙◌, subst, arith, below_more, length-set, get_or-set_same, get_or-set_other}
 use Rattle.rfc6386.proofs.Laws.Raster.{is-tab}
 use Rattle.steps.specs.Rows.{laid, laid_twice}
-use Rattle.steps.specs.Laws.Copying.{within_cases, get_d-laid, length-laid, laid_in, laid_out}
+use Rattle.steps.proofs.Laws.Copying.{within_cases, get_d-laid, length-laid, laid_in, laid_out}
 
 pub record Twice (d₀ : List ℕ) (to off w : ℕ) (f g : ℕ → ℕ) (d : List ℕ) (c : ℕ) : Type 0 where
   pub most : c ≤ w
