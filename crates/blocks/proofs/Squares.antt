@@ -14,7 +14,7 @@ use Rattle.rfc6386.specs.Number.{clamped}
 use Rattle.rfc6386.specs.Raster.{raster, written}
 use Rattle.rfc6386.specs.Picture.{Plane, Image, image, square}
 use Rattle.rfc6386.specs.Refusal.{Fits}
-use Rattle.rfc6386.proofs.Laws.Raster.{row_fits, raster_ext, length-raster, get_d-raster, within-true, get_d-written, written_ext}
+use Rattle.rfc6386.proofs.Laws.Raster.{row_fits, raster_ext, length-raster, get_or-raster, within-true, get_or-written, written_ext}
 use Rattle.steps.specs.Rows.{laid}
 use Rattle.steps.specs.Window.{window_list, put_at}
 use Rattle.blocks.specs.Places.{Inside, Lies, Source, clamped_row, clamped_rect}
@@ -51,7 +51,7 @@ written_at : (d : List ℕ) (w rows : ℕ) (f : ℕ → ℕ → ℕ) (r c : ℕ)
 written_at d w rows f r c hr hc room =
     let i : 0 + r * w + c ≡ r * w + c = omega arith in
     ap (λ (k : ℕ). get_or (written d w 0 0 w rows f) k 0) i
-    ∙ get_d-written d w 0 0 w rows f (r * w + c) (omega (arith, row_fits r rows w hr))
+    ∙ get_or-written d w 0 0 w rows f (r * w + c) (omega (arith, row_fits r rows w hr))
     ∙ rw (digits_div r hc, digits_mod r hc, within-true 0 rows r (omega arith) (omega arith), within-true 0 w c (omega arith) (omega arith)) (ap₂ f (omega arith) (omega arith))
 
 pub corner_is : (p : Plane) (x y : ℤ) (d : List ℕ) {n cols rows : ℕ} {wide : List ℕ} → n ≤ cols → n ≤ rows → rows * cols ≤ length d
@@ -88,7 +88,7 @@ pub put-square : (out : List ℕ) (stride x y n : ℕ) (f : ℕ → ℕ → ℕ)
 put-square out stride x y n f {l = l} e h =
     e
     ∙ written_ext out stride x y n n _ _
-    (λ r c hr hc. sym (get_d-raster n n f r c hr hc) ∙ ap (λ (l : List ℕ). get_or l (r * n + c) 0) h ∙ ap (λ (i : ℕ). get_or l i 0) (omega arith))
+    (λ r c hr hc. sym (get_or-raster n n f r c hr hc) ∙ ap (λ (l : List ℕ). get_or l (r * n + c) 0) h ∙ ap (λ (i : ℕ). get_or l i 0) (omega arith))
 
 pub square_size : (n : ℕ) (img : Image) (x y : ℤ) → length (square n img x y) ≡ n * n
 unfolding square

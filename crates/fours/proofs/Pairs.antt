@@ -9,7 +9,7 @@ use lib.Dec.{ltb}
 use lib.ListN.{length, get_or}
 use Rattle.rfc6386.specs.Raster.{raster, written}
 use Rattle.rfc6386.specs.Picture.{halo_sample, halo_block}
-use Rattle.rfc6386.proofs.Laws.Raster.{get_d-raster}
+use Rattle.rfc6386.proofs.Laws.Raster.{get_or-raster}
 use Rattle.rfc6386.specs.declared.FilterSet.{FilterSet}
 use Rattle.steps.specs.Window.{window_list, beside}
 use Rattle.steps.proofs.Laws.Windows.{raster_of, window_sample_lem}
@@ -76,8 +76,8 @@ pair_of {w} {set} {u} {au} {pu} {v} {av} {pv} {mx} {my} {o} size L R =
         → get_or o (r * (w + w) + c) 0 ≡ cond b (get_or (raster w w f) (r * w + c) 0) (get_or (raster w w g) (r * w + (c - w)) 0)
     at r c hr hc true e =
         let h : c < w = ltb-true c w e in
-        ap (λ (i : ℕ). get_or o i 0) (omega arith) ∙ L.has r c hr h ∙ window_sample_lem w set u au pu mx my r c hr h ∙ sym (get_d-raster w w f r c hr h)
+        ap (λ (i : ℕ). get_or o i 0) (omega arith) ∙ L.has r c hr h ∙ window_sample_lem w set u au pu mx my r c hr h ∙ sym (get_or-raster w w f r c hr h)
     at r c hr hc false e =
         let h : w ≤ c = ltb-false c w e in
         let l : c - w < w = omega arith in
-        ap (λ (i : ℕ). get_or o i 0) (omega arith) ∙ R.has r (c - w) hr l ∙ window_sample_lem w set v av pv mx my r (c - w) hr l ∙ sym (get_d-raster w w g r (c - w) hr l)
+        ap (λ (i : ℕ). get_or o i 0) (omega arith) ∙ R.has r (c - w) hr l ∙ window_sample_lem w set v av pv mx my r (c - w) hr l ∙ sym (get_or-raster w w g r (c - w) hr l)

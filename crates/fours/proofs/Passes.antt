@@ -9,7 +9,7 @@ use lib.IntN.{ℤ}
 use lib.ListN.{length, get_or}
 use Rattle.rfc6386.specs.Filter.{taps_of}
 use Rattle.rfc6386.specs.Picture.{step_at, halo_block}
-use Rattle.rfc6386.proofs.Laws.Raster.{length-tab, get_d-tab, row_fits, within-true}
+use Rattle.rfc6386.proofs.Laws.Raster.{length-tab, get_or-tab, row_fits, within-true}
 use Rattle.rfc6386.proofs.Laws.Steps.{step-zero}
 use Rattle.rfc6386.specs.declared.FilterSet.{FilterSet}
 use Rattle.rfc6386.specs.declared.FilterSet.TheVariants.{Bilinear}
@@ -28,7 +28,7 @@ pub laid_at : (d : List ℕ) (n : ℕ) (f : ℕ → ℕ) {z : List ℕ} → z �
 unfolding laid
 laid_at d n f e h i l =
     ap (λ (k : List ℕ). get_or k i 0) e
-    ∙ get_d-tab _ _ i 0 (omega arith)
+    ∙ get_or-tab _ _ i 0 (omega arith)
     ∙ ap (λ (b : Bool). cond b (f (i - 0)) (get_or d i 0)) (within-true 0 n i (omega arith) (omega arith))
     ∙ ap f (omega arith)
 

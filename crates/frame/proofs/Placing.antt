@@ -9,7 +9,7 @@ use lib.ListN.{length, get_or}
 use lib.Seq.{ext_get_or}
 use Rattle.rfc6386.specs.Raster.{written, within}
 use Rattle.rfc6386.specs.Channel.{Channel, side, samples_in}
-use Rattle.rfc6386.proofs.Laws.Raster.{next_row, row_fits, get_d-written, length-written, written_ext, within_is}
+use Rattle.rfc6386.proofs.Laws.Raster.{next_row, row_fits, get_or-written, length-written, written_ext, within_is}
 use Rattle.steps.specs.Rows.{Room}
 use Rattle.steps.proofs.Laws.Copying.{within-false}
 use Rattle.steps.proofs.Laws.Parts.{within_parts, written_rows}
@@ -23,7 +23,7 @@ module _ (d : List ℕ) (s x y w h : ℕ) (f : ℕ → ℕ → ℕ) (none : (q m
   written_none =
       ext_get_or 0 (written d s x y w h f) d (length-written d s x y w h f)
       (λ i l.
-      get_d-written d s x y w h f i (omega (arith, length-written d s x y w h f))
+      get_or-written d s x y w h f i (omega (arith, length-written d s x y w h f))
       ∙ ap (λ (b : Bool). cond b (f (i / s - y) (i % s - x)) (get_or d i 0)) (none (i / s) (i % s)))
 
 and-false : (b : Bool) → b && false ≡ false
@@ -66,12 +66,12 @@ module _ (d : List ℕ) (s x y w h k : ℕ) (f : ℕ → ℕ → ℕ) where
       at i l =
           let q = i / s in
           let m = i % s in
-          get_d-written d₁ s (x + w) y k h (λ r c. f r (w + c)) i (omega (arith, n₁))
-          ∙ ap (cond (within y h q && within (x + w) k m) (f (q - y) (w + (m - (x + w))))) (get_d-written d s x y w h f i l)
+          get_or-written d₁ s (x + w) y k h (λ r c. f r (w + c)) i (omega (arith, n₁))
+          ∙ ap (cond (within y h q && within (x + w) k m) (f (q - y) (w + (m - (x + w))))) (get_or-written d s x y w h f i l)
           ∙ two (f (q - y) (m - x)) (f (q - y) (w + (m - (x + w)))) (get_or d i 0) (within y h q) (within x w m) (within (x + w) k m)
           (λ e. let W = within_is (x + w) k m e in let z : w + (m - (x + w)) ≡ m - x = omega (arith, W.from) in ap (λ (j : ℕ). f (q - y) j) z)
           ∙ sym
-          (get_d-written d s x y (w + k) h f i l
+          (get_or-written d s x y (w + k) h f i l
           ∙ ap (λ (b : Bool). cond (within y h q && b) (f (q - y) (m - x)) (get_or d i 0)) (within_parts x w k m))
 
 -- ---- of a frame's plane

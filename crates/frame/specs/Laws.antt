@@ -15,7 +15,7 @@ use Rattle.rfc6386.specs.Channel.{Channel, side, samples_in}
 use Rattle.rfc6386.proofs.Laws.Tests.{or-false}
 use Rattle.rfc6386.specs.Refusal.{Sized}
 use Rattle.rfc6386.proofs.Laws.Refusals.{done, or_else_next, or_else-zero, sized}
-use Rattle.rfc6386.proofs.Laws.Raster.{get_d-tab, row_fits}
+use Rattle.rfc6386.proofs.Laws.Raster.{get_or-tab, row_fits}
 use Rattle.vector_bytes.specs.Bytes.{int16, vector_at}
 use Rattle.vector_bytes.specs.Laws.{vectors_read}
 use Rattle.outputs.specs.Output.{flat, Left}
@@ -79,7 +79,7 @@ first-is orders k h =
     let b = take 64 (drop (66 * k + 2) orders) in
     let long : length b ≡ 64 = length-take-le 64 (drop (66 * k + 2) orders) (omega (arith, length-drop (66 * k + 2) orders)) in
     ap (λ (l : List Mv). get_or l 0 zero_vector) (vectors_read b long)
-    ∙ get_d-tab 16 (vector_at b) 0 zero_vector (omega arith)
+    ∙ get_or-tab 16 (vector_at b) 0 zero_vector (omega arith)
     ∙ (λ i. record { row = int16 (byte 0 (omega arith) i) (byte 1 (omega arith) i); col = int16 (byte 2 (omega arith) i) (byte 3 (omega arith) i) })
   where
     byte : (j : ℕ) → j < 64 → get_or (take 64 (drop (66 * k + 2) orders)) j 0 ≡ get_or orders (66 * k + (2 + j)) 0

@@ -22,7 +22,7 @@ use Rattle.rfc6386.proofs.Merging.{merge_inside}
 use Rattle.rfc6386.proofs.Carried.{lent_at, telling_place, Unlike, results-differ}
 use Rattle.rfc6386.proofs.Laws.Raster.{length-tab, written_ext}
 use Rattle.steps.specs.Rows.{laid}
-use Rattle.steps.proofs.Laws.Copying.{get_d-laid, length-laid, laid_in, either}
+use Rattle.steps.proofs.Laws.Copying.{get_or-laid, length-laid, laid_in, either}
 use Rattle.vector_bytes.specs.Bytes.{vectors_of}
 use Rattle.vector_bytes.specs.Spelled.{sixteen_spelled, spelled_is}
 use Rattle.frame.specs.Frame.{Planes, planes, References, reference, reference_code, kind_code, vectors_at, bad_order, any_bad, Asked, cols, rows, single, ordered, prediction_at, frame_sample, frame_plane, references_refusal, output_refusal, orders_refusal, frame_number, Fills}
@@ -69,9 +69,9 @@ module _ (orders : List ℕ) (k code : ℕ) (v : Mv) where
   same_byte i h =
       either i (length orders)
       (λ l.
-      get_d-laid orders (66 * k) 66 (λ j. get_or (order_of code 0 v) j 0) i l
+      get_or-laid orders (66 * k) 66 (λ j. get_or (order_of code 0 v) j 0) i l
       ∙ ap (λ (n : ℕ). cond (within (66 * k) 66 i) n (get_or orders i 0)) (order-byte (i - 66 * k) (λ e. h (omega arith)))
-      ∙ sym (get_d-laid orders (66 * k) 66 (λ j. get_or (order_of code 1 v) j 0) i l))
+      ∙ sym (get_or-laid orders (66 * k) 66 (λ j. get_or (order_of code 1 v) j 0) i l))
       (λ l. past 0 i l ∙ sym (past 1 i l))
     where
       past : (kind i : ℕ) → length orders ≤ i → get_or (one kind) i 0 ≡ 0

@@ -11,7 +11,7 @@ use Rattle.rfc6386.specs.Raster.{within}
 use Rattle.rfc6386.specs.Refusal.{if_done}
 use Rattle.rfc6386.specs.Channel.{Channel, luma, chroma_u, chroma_v, side, samples_in}
 use Rattle.rfc6386.proofs.Promises.{one_result}
-use Rattle.rfc6386.proofs.Laws.Raster.{row_fits, length-written, get_d-written, written_sample}
+use Rattle.rfc6386.proofs.Laws.Raster.{row_fits, length-written, get_or-written, written_sample}
 use Rattle.rfc6386.proofs.Laws.Refusals.{done, refused, or_else-zero}
 use Rattle.steps.proofs.Laws.Copying.{within_cases}
 use Rattle.outputs.specs.Laws.{zeros}
@@ -88,7 +88,7 @@ module _ {a : Asked} {codes : ℕ} {out : Planes} {s : Strides} {r : ℕ} {out' 
         let q = i / stride_in k s in
         let m = i % stride_in k s in
         ap (λ (l : List ℕ). get_or l i 0) (filled k)
-        ∙ get_d-written (bytes_in k out) (stride_in k s) 0 0 (cols a * side k) (rows a * side k) (frame_sample a k) i h
+        ∙ get_or-written (bytes_in k out) (stride_in k s) 0 0 (cols a * side k) (rows a * side k) (frame_sample a k) i h
         ∙ within_cases 0 (rows a * side k) q (λ b. cond (b && within 0 (cols a * side k) m) (frame_sample a k (q - 0) (m - 0)) (get_or (bytes_in k out) i 0) ≡ get_or (bytes_in k out) i 0)
         (λ g l. within_cases 0 (cols a * side k) m (λ b. cond b (frame_sample a k (q - 0) (m - 0)) (get_or (bytes_in k out) i 0) ≡ get_or (bytes_in k out) i 0) (λ g' l'. absurd (outside (omega arith) (omega arith))) (λ none. refl))
         (λ none. refl)

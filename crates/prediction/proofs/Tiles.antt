@@ -15,7 +15,7 @@ use Rattle.rfc6386.specs.Picture.{Plane, Image, image, predicted, block, block_b
 use Rattle.rfc6386.specs.Fetched.{Coordinate, block_of, joined, tiles_of}
 use Rattle.rfc6386.specs.Sums.{sum_to, sum_rows}
 use Rattle.rfc6386.specs.Clips.{predicted_clip, block_clips, clips_by}
-use Rattle.rfc6386.proofs.Laws.Raster.{is-tab, row_fits, within-true, get_d-written, length-written, Within, within_is}
+use Rattle.rfc6386.proofs.Laws.Raster.{is-tab, row_fits, within-true, get_or-written, length-written, Within, within_is}
 use Rattle.rfc6386.proofs.Laws.Tests.{and-true}
 use Rattle.rfc6386.proofs.Laws.Blocks.{block_sample}
 use Rattle.rfc6386.proofs.Laws.Fetched.{cost, length-block, length_tiles, cost_most, joined_more, length-joined}
@@ -110,7 +110,7 @@ module _ (per : ℕ) (some : 1 ≤ per) (set : FilterSet) (img : Image) (x y : �
           size = ap length next ∙ length-written out n (b % per * 4) (b / per * 4) 4 4 (λ r c. get_or blk (0 + r * 4 + c) 0) ∙ P.size;
           done = λ i h k.
               ap (λ (l : List ℕ). get_or l i 0) next
-              ∙ get_d-written out n (b % per * 4) (b / per * 4) 4 4 (λ r c. get_or blk (0 + r * 4 + c) 0) i (omega (arith, P.size))
+              ∙ get_or-written out n (b % per * 4) (b / per * 4) 4 4 (λ r c. get_or blk (0 + r * 4 + c) 0) i (omega (arith, P.size))
               ∙ at i h k (within (b / per * 4) 4 (i / n) && within (b % per * 4) 4 (i % n)) refl;
         }
       where

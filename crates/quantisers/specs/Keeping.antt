@@ -7,7 +7,7 @@ use Rattle.std.proofs.Math.Seq.{ext_get_or}
 use Rattle.rfc6386.specs.Raster.{tab}
 use Rattle.rfc6386.specs.Refusal.{or_else, if_done}
 use Rattle.rfc6386.specs.Macroblock.{no_samples, answered}
-use Rattle.rfc6386.proofs.Laws.Raster.{is-tab, length-tab, get_d-tab}
+use Rattle.rfc6386.proofs.Laws.Raster.{is-tab, length-tab, get_or-tab}
 use Rattle.rfc6386.proofs.Laws.Tests.{or-false}
 use Rattle.residue.specs.Transform.{at, inverse_wht}
 use Rattle.residue.specs.Coefficients.{block, first_of_y, seeded_at, seeded, finished, beyond, some, split_beyond, whole_beyond, residue_refusal, whole_refusal, split_refusal}
@@ -61,7 +61,7 @@ module _ {p c : List ℤ} (K : Kept p c) where
   unfolding whole_beyond seeded block
   seeded_alike e =
       is-tab (pos 0) 384 (seeded_at p) (tab 384 (seeded_at c)) (length-tab 384 (seeded_at c))
-      (λ i h. get_d-tab 384 (seeded_at c) i (pos 0) h ∙ one i h (first_of_y i) refl)
+      (λ i h. get_or-tab 384 (seeded_at c) i (pos 0) h ∙ one i h (first_of_y i) refl)
     where
       y2 : some 16 (λ i. beyond 16383 (at p i)) ≡ false
       y2 = (or-false (some 16 (λ i. beyond 16383 (at p i))) (some 384 (λ i. not (first_of_y i) && beyond 4095 (at p (16 + i)))) e).0
@@ -72,7 +72,7 @@ module _ {p c : List ℤ} (K : Kept p c) where
       first_block : tab 16 (λ k. at c (0 + k)) ≡ tab 16 (λ k. at p (0 + k))
       first_block =
           is-tab (pos 0) 16 (λ k. at p (0 + k)) (tab 16 (λ k. at c (0 + k))) (length-tab 16 (λ k. at c (0 + k)))
-          (λ k h. get_d-tab 16 (λ k. at c (0 + k)) k (pos 0) h ∙ same_at (0 + k) 16383 (omega arith) (some_none 16 (λ i. beyond 16383 (at p i)) y2 (0 + k) (omega arith)))
+          (λ k h. get_or-tab 16 (λ k. at c (0 + k)) k (pos 0) h ∙ same_at (0 + k) 16383 (omega arith) (some_none 16 (λ i. beyond 16383 (at p i)) y2 (0 + k) (omega arith)))
 
       one : (i : ℕ) → i < 384 → (b : Bool) → first_of_y i ≡ b
           → cond b (at (inverse_wht (tab 16 (λ k. at c (0 + k)))) (i / 16)) (at c (16 + i)) ≡ cond b (at (inverse_wht (tab 16 (λ k. at p (0 + k)))) (i / 16)) (at p (16 + i))

@@ -6,7 +6,7 @@ use Rattle.std.specs.Int.{w16, w32}
 use Rattle.signed.specs.Int.{up, dn, int, range, times, nat_abs_is}
 use Rattle.rfc6386.specs.Number.{clamped}
 use Rattle.rfc6386.specs.Raster.{tab}
-use Rattle.rfc6386.proofs.Laws.Raster.{length-tab, get_d-tab}
+use Rattle.rfc6386.proofs.Laws.Raster.{length-tab, get_or-tab}
 use Rattle.residue.specs.Transform.{at}
 use Rattle.quantisers.specs.Factors.{index, step_at, y2_ac_of, uv_dc_of, factors_of, dequantised}
 use Rattle.quantisers.specs.Levels.{split_factor, whole_factor, products}
@@ -120,7 +120,7 @@ unfolding products
 product_at factor l i = here (ltb i (length l)) refl
   where
     here : (b : Bool) → ltb i (length l) ≡ b → at (tab (length l) (λ i. dequantised (at l i) (factor i))) i ≡ dequantised (at l i) (factor i)
-    here true t = get_d-tab (length l) (λ i. dequantised (at l i) (factor i)) i (pos 0) (ltb-true i (length l) t)
+    here true t = get_or-tab (length l) (λ i. dequantised (at l i) (factor i)) i (pos 0) (ltb-true i (length l) t)
     here false t =
         let h = ltb-false i (length l) t in
         let none : at l i ≡ pos 0 = get_or-eq_default l (pos 0) h in

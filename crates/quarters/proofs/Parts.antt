@@ -17,7 +17,7 @@ use Rattle.rfc6386.specs.Sums.{sum_rows}
 use Rattle.rfc6386.specs.Clips.{predicted_clip, block_clips, clips_by}
 use Rattle.rfc6386.specs.Macroblock.{subblock}
 use Rattle.rfc6386.specs.Report.{one_in, luma}
-use Rattle.rfc6386.proofs.Laws.Raster.{raster_ext, get_d-written, length-written, written_ext, written_all, Within, within_is}
+use Rattle.rfc6386.proofs.Laws.Raster.{raster_ext, get_or-written, length-written, written_ext, written_all, Within, within_is}
 use Rattle.rfc6386.proofs.Laws.Blocks.{block_at, block_part}
 use Rattle.rfc6386.proofs.Laws.Fetched.{cost, length-block, length_tiles, cost_most, one_in_lem, luma_apart, luma_one, luma_least, luma_split, luma_most}
 use Rattle.rfc6386.proofs.Laws.Sums.{sum_le, rows_ext, sum_quarters}
@@ -131,7 +131,7 @@ one-part n set img x y low mvs at_x at_y out {v} S O e =
 module _ (all out : List ℕ) (x y n : ℕ) where
   pub part_at : (i : ℕ) → i < length out → get_or (part all out x y n) i 0 ≡ cond (within y n (i / 16) && within x n (i % 16)) (get_or all i 0) (get_or out i 0)
   unfolding part
-  part_at i h = get_d-written out 16 x y n n (λ r c. get_or all ((y + r) * 16 + (x + c)) 0) i h ∙ at (within y n (i / 16)) (within x n (i % 16)) refl refl
+  part_at i h = get_or-written out 16 x y n n (λ r c. get_or all ((y + r) * 16 + (x + c)) 0) i h ∙ at (within y n (i / 16)) (within x n (i % 16)) refl refl
     where
       at : (R C : Bool) → within y n (i / 16) ≡ R → within x n (i % 16) ≡ C
           → cond (R && C) (get_or all ((y + (i / 16 - y)) * 16 + (x + (i % 16 - x))) 0) (get_or out i 0) ≡ cond (R && C) (get_or all i 0) (get_or out i 0)

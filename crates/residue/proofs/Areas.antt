@@ -13,7 +13,7 @@ use lib.ListN.{length, get_or, set, length-set}
 use lib.Seq.{get_or-set_same, get_or-set_other}
 use lib.IntN.{ℤ}
 use Rattle.rfc6386.specs.Raster.{tab}
-use Rattle.rfc6386.proofs.Laws.Raster.{get_d-tab}
+use Rattle.rfc6386.proofs.Laws.Raster.{get_or-tab}
 use Rattle.residue.specs.Transform.{summed}
 use Rattle.residue.specs.Inner.{Room, Inside, Area}
 
@@ -134,8 +134,8 @@ added z {d} {d'} {p} {s} {i} {w} {y} {x} R ep es A =
           let b : x + k % 4 ≡ q = omega (arith, m) in
           A.done r q m
           ∙ ap (λ (l : List ℕ). get_or l k 0) es
-          ∙ get_d-tab 16 _ k 0 h
+          ∙ get_or-tab 16 _ k 0 h
           ∙ ap (λ (n : ℕ). summed n (z k))
-          (ap (λ (l : List ℕ). get_or l k 0) ep ∙ get_d-tab 16 _ k 0 h ∙ ap₂ (λ (r q : ℕ). get_or d (i + (r * w + q)) 0) a b);
+          (ap (λ (l : List ℕ). get_or l k 0) ep ∙ get_or-tab 16 _ k 0 h ∙ ap₂ (λ (r q : ℕ). get_or d (i + (r * w + q)) 0) a b);
       rest = A.rest;
     }

@@ -10,7 +10,7 @@ use mir.Syntax.{w16}
 use mir.Val.{SFits}
 use Rattle.signed.specs.Held.{Within, full-range, size-within, add-within, shr-within}
 use Rattle.rfc6386.specs.Filter.{clamp255}
-use Rattle.rfc6386.proofs.Laws.Raster.{get_d-tab}
+use Rattle.rfc6386.proofs.Laws.Raster.{get_or-tab}
 use Rattle.residue.specs.Transform.{at, dct, down, along, eighth, transform, inverse_dct, summed}
 use Rattle.residue.specs.Coefficients.{block, residue_at}
 use Rattle.residue.specs.Short.{OnlyFirst, short-dct}
@@ -31,7 +31,7 @@ summed_0 n h = omega arith
 module _ {b : List ℤ} (o : OnlyFirst b) where
   at_flat : {y x : ℕ} (r q : ℕ) → Inside y (y + 4) x (x + 4) r q → at (inverse_dct b) ((r - y) * 4 + (q - x)) ≡ eighth 4 (at b 0)
   at_flat {y} {x} r q m =
-      ap (λ (l : List ℤ). at l ((r - y) * 4 + (q - x))) (short-dct b o) ∙ get_d-tab 16 (λ k. eighth 4 (at b 0)) ((r - y) * 4 + (q - x)) (pos 0) (omega (arith, m))
+      ap (λ (l : List ℤ). at l ((r - y) * 4 + (q - x))) (short-dct b o) ∙ get_or-tab 16 (λ k. eighth 4 (at b 0)) ((r - y) * 4 + (q - x)) (pos 0) (omega (arith, m))
 
   -- with one number for all its samples
   pub finished_flat : {d d' : List ℕ} {i w y x : ℕ} {v : ℤ} → v ≡ eighth 4 (at b 0) → Area d d' i w y (y + 4) x (x + 4) (λ r q. summed (get_or d (i + (r * w + q)) 0) v)
@@ -56,7 +56,7 @@ unfolding transform
 dct_size {b} f h =
     record {
       small = λ k p q.
-          subst (λ (z : ℤ). nat_abs z ≤ 32512) (sym (get_d-tab 16 (λ k. eighth 4 (along dct b (k / 4) (k % 4))) k (pos 0) q)) (less (within_size (last (k / 4) (k % 4))));
+          subst (λ (z : ℤ). nat_abs z ≤ 32512) (sym (get_or-tab 16 (λ k. eighth 4 (along dct b (k / 4) (k % 4))) k (pos 0) q)) (less (within_size (last (k / 4) (k % 4))));
     }
   where
     less : {n : ℕ} → n ≤ 21371 → n ≤ 32512
@@ -158,6 +158,6 @@ open_block {c} {n} {m} i o h l =
     record {
       small = λ k p q.
           subst (λ (z : ℤ). nat_abs z ≤ 4095)
-          (ap (at c) (omega arith) ∙ sym (get_d-tab 16 (λ k. at c (n + i + k)) k (pos 0) q))
+          (ap (at c) (omega arith) ∙ sym (get_or-tab 16 (λ k. at c (n + i + k)) k (pos 0) q))
           (o.low (i + k) (omega arith) (λ e. omega arith));
     }

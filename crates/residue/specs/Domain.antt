@@ -6,7 +6,7 @@ use Rattle.std.proofs.Math.Bool.{not}
 use borrow.Author.Tests.{ltb-true, ltb-false, lt-ltb, le-ltb, eqb-true, eq-eqb}
 use Rattle.std.proofs.Math.IntN.{nat_abs}
 use Rattle.rfc6386.specs.Raster.{tab}
-use Rattle.rfc6386.proofs.Laws.Raster.{length-tab, get_d-tab}
+use Rattle.rfc6386.proofs.Laws.Raster.{length-tab, get_or-tab}
 use Rattle.rfc6386.specs.Refusal.{or_else}
 use Rattle.residue.specs.Transform.{at, inverse_wht}
 use Rattle.residue.specs.Coefficients.{block, first_of_y, seeded_at, seeded, beyond, some, split_beyond, whole_beyond, residue_refusal, whole_refusal, split_refusal}
@@ -143,7 +143,7 @@ open-seeded {c} w =
     record {
       low = λ k h q.
           subst (λ (z : ℤ). nat_abs z ≤ 4095)
-          (sym (ap (at (tab 384 (seeded_at c))) (omega arith) ∙ get_d-tab 384 (seeded_at c) k (pos 0) h ∙ ap (λ (b : Bool). cond b (at (inverse_wht (block c 0)) (k / 16)) (at c (16 + k))) (not_first k (λ l m. q m))))
+          (sym (ap (at (tab 384 (seeded_at c))) (omega arith) ∙ get_or-tab 384 (seeded_at c) k (pos 0) h ∙ ap (λ (b : Bool). cond b (at (inverse_wht (block c 0)) (k / 16)) (at c (16 + k))) (not_first k (λ l m. q m))))
           (of_whole w k h (λ l m. q m));
     }
 

@@ -5,7 +5,7 @@ use Rattle.std.proofs.Math.Path.{ap}
 use Rattle.std.proofs.Math.Nat.{mod-lt, div-add-mod', mul-le-mul_right}
 use Rattle.std.proofs.Math.ListN.{get_or}
 use Rattle.rfc6386.specs.Raster.{tab, raster}
-use Rattle.rfc6386.proofs.Laws.Raster.{is-tab, tab_ext, get_d-tab, next_row}
+use Rattle.rfc6386.proofs.Laws.Raster.{is-tab, tab_ext, get_or-tab, next_row}
 use Rattle.residue.specs.Transform.{summed}
 use Rattle.residue.specs.Coefficients.{residue_at, finished_plane}
 use Rattle.residue.specs.Inner.{Area, piece}
@@ -50,7 +50,7 @@ module _ {d d' : List ℕ} (i w : ℕ) (c : List ℤ) (n : ℕ) (A : Area d d' i
       ap (λ (j : ℕ). get_or d' (i + j) 0) e
       ∙ A.done r q (record { from_row = omega arith; to_row = (div-lt_iff_lt-mul p).1 h; from-column = omega arith; to-column = mod-lt k p })
       ∙ ap (λ (s : ℕ). summed s (residue_at w c n r q))
-      (sym (get_d-tab (w * w) (λ k. get_or d (i + k) 0) (r * w + q) 0 (omega (arith, e)))))
+      (sym (get_or-tab (w * w) (λ k. get_or d (i + k) 0) (r * w + q) 0 (omega (arith, e)))))
 
   -- and what lies beside it is as it was
   pub piece_kept : (j m : ℕ) → ((k : ℕ) → j ≤ k → k < j + m → i ≤ k → k < i + w * w → ⊥) → piece d' j m ≡ piece d j m

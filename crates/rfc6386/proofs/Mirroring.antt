@@ -17,7 +17,7 @@ use Rattle.rfc6386.specs.Mirror.{Mirror, left_to_right, top_to_bottom, by_half, 
 use Rattle.rfc6386.specs.Telling.{sixteen}
 use Rattle.rfc6386.proofs.Seeing.{columns_of, three_accepted, columns-image}
 use Rattle.rfc6386.proofs.Carried.{Place, lent_at, Word, OfTypes, WholeGives, SplitGives}
-use Rattle.rfc6386.proofs.Laws.Raster.{get_d-raster}
+use Rattle.rfc6386.proofs.Laws.Raster.{get_or-raster}
 use Rattle.rfc6386.specs.Refusal.{Fits}
 use Rattle.rfc6386.proofs.Laws.Refusals.{Accepts, accepts, zero_for}
 use Rattle.rfc6386.proofs.Laws.Channels.{by_channels, some_places, whole_channel, split_channel, whole_sample, split_sample}
@@ -250,7 +250,7 @@ halves_mirrored =
 unlike_mirrored : (p q : Prediction) (c s t : ℕ) → c < 16 → get_or p.samples.y (0 * 16 + c) 0 ≡ s → get_or q.samples.y (0 * 16 + (16 - 1 - c)) 0 ≡ t → (s ≡ t → ⊥)
     → p ≡ mirrored_prediction left_to_right q → ⊥
 unlike_mirrored p q c s t h a b n e =
-    n (sym a ∙ ap (λ (o : Prediction). get_or o.samples.y (0 * 16 + c) 0) e ∙ get_d-raster 16 16 (λ r c. get_or q.samples.y (r * 16 + (16 - 1 - c)) 0) 0 c (omega arith) h ∙ b)
+    n (sym a ∙ ap (λ (o : Prediction). get_or o.samples.y (0 * 16 + c) 0) e ∙ get_or-raster 16 16 (λ r c. get_or q.samples.y (r * 16 + (16 - 1 - c)) 0) 0 c (omega arith) h ∙ b)
 
 module _ (set : FilterSet) (low : Lowering) (c s t : ℕ) (h : c < 16) (n : s ≡ t → ⊥) where
   abbrev mirrored_halves : Reference

@@ -17,7 +17,7 @@ use Rattle.rfc6386.specs.Channel.{plane_in}
 use Rattle.rfc6386.specs.Channel.Channel.{luma}
 use Rattle.rfc6386.specs.Telling.{sixteen}
 use Rattle.rfc6386.proofs.Laws.Tests.{and-true}
-use Rattle.rfc6386.proofs.Laws.Raster.{length-raster, get_d-raster}
+use Rattle.rfc6386.proofs.Laws.Raster.{length-raster, get_or-raster}
 use Rattle.rfc6386.proofs.Laws.Vectors.{vector, clamped-is, lowered-whole}
 use Rattle.rfc6386.proofs.Laws.Refusals.{zero_for}
 use Rattle.rfc6386.proofs.Laws.Blocks.{block_at}
@@ -113,7 +113,7 @@ column a b = cond (eqb (clamped a 16) 1) 255 0
 
 one-image : image (plane_in luma one_column) ≡ column
 unfolding image
-one-image = fun_ext (λ a. fun_ext (λ b. get_d-raster 16 16 (λ r c. cond (eqb c 1) 255 0) (clamped b 16) (clamped a 16) (omega (arith, clamped-is b 16)) (omega (arith, clamped-is a 16))))
+one-image = fun_ext (λ a. fun_ext (λ b. get_or-raster 16 16 (λ r c. cond (eqb c 1) 255 0) (clamped b 16) (clamped a 16) (omega (arith, clamped-is b 16)) (omega (arith, clamped-is a 16))))
 
 -- a quarter of a luma pixel to the right
 abbrev pub quarter_right : Mv

@@ -14,7 +14,7 @@ use Rattle.rfc6386.specs.Channel.{Channel, side, plane_in, samples_in, whole_vec
 use Rattle.rfc6386.specs.Channel.Channel.{luma}
 use Rattle.rfc6386.specs.Seen.{first_seen, last_seen, WholeSame, TileSame, SplitSame, Strip, BlankedIn, WholeMisses, TileMisses}
 use Rattle.rfc6386.proofs.Carried.{Place, lent_at, WholeGives, SplitGives}
-use Rattle.rfc6386.proofs.Laws.Raster.{length-raster, get_d-raster}
+use Rattle.rfc6386.proofs.Laws.Raster.{length-raster, get_or-raster}
 use Rattle.rfc6386.proofs.Laws.Vectors.{clamped-is}
 use Rattle.rfc6386.proofs.Laws.Refusals.{accepts, zero_for}
 use Rattle.rfc6386.proofs.Laws.Channels.{by_channels, some_places, whole_channel, split_channel, whole_sample, split_sample}
@@ -174,7 +174,7 @@ three_accepted f =
 
 pub columns-image : (f : ℕ → ℕ) → image (plane_in luma (columns_of f)) ≡ (λ a b. f (clamped a 48))
 unfolding image
-columns-image f = fun_ext (λ a. fun_ext (λ b. get_d-raster 16 48 (λ r c. f c) (clamped b 16) (clamped a 48) (omega (arith, clamped-is b 16)) (omega (arith, clamped-is a 48))))
+columns-image f = fun_ext (λ a. fun_ext (λ b. get_or-raster 16 48 (λ r c. f c) (clamped b 16) (clamped a 48) (omega (arith, clamped-is b 16)) (omega (arith, clamped-is a 48))))
 
 -- luma sample c, in the first row, of the whole prediction for the middle macroblock, full-pixel off
 abbrev pub middle : FilterSet → Reference → Mv → ℕ → ℕ

@@ -14,7 +14,7 @@ use Rattle.steps.specs.Rows.{laid, laid_twice, Low}
 use Rattle.steps.specs.Taps.{two_taps}
 use Rattle.steps.specs.Window.{six_down, over, mix_at}
 use Rattle.steps.specs.declared.taps.Taps.{Taps}
-use Rattle.steps.proofs.Laws.Copying.{within_cases, get_d-laid, length-laid, laid_in, laid_out, laid_parts}
+use Rattle.steps.proofs.Laws.Copying.{within_cases, get_or-laid, length-laid, laid_in, laid_out, laid_parts}
 use Rattle.sixteens.specs.Rolling.{Rolled, below, turn, Rolling, At, Lie, ring_six, ring_step}
 use Rattle.sixteens.specs.declared.ring.Ring.{Ring}
 
@@ -44,7 +44,7 @@ low-laid {m} {m'} to n g L h e =
     record {
       each = λ i l.
           let k : i < length m = omega (arith, ap length e, length-laid m to n g) in
-          let f = ap (λ (l : List ℕ). get_or l i 0) e ∙ get_d-laid m to n g i k in
+          let f = ap (λ (l : List ℕ). get_or l i 0) e ∙ get_or-laid m to n g i k in
           omega (arith, f, within_cases to n i (λ b. cond b (g (i - to)) (get_or m i 0) ≤ 255) (λ a b. h (i - to)) (λ out. L.each i k));
     }
 

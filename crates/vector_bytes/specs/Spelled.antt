@@ -8,7 +8,7 @@ use Rattle.rfc6386.specs.Number.{floor_mod, wrap16}
 use Rattle.rfc6386.specs.Raster.{tab}
 use Rattle.rfc6386.specs.Telling.{sixteen}
 use Rattle.rfc6386.proofs.Laws.Vectors.{vector, wrap_in, wrap_high}
-use Rattle.rfc6386.proofs.Laws.Raster.{length-tab, get_d-tab, is-tab}
+use Rattle.rfc6386.proofs.Laws.Raster.{length-tab, get_or-tab, is-tab}
 use Rattle.vector_bytes.specs.Bytes.{int16, vector_at, vectors_of}
 use Rattle.vector_bytes.specs.Laws.{vectors_read}
 use Rattle.rfc6386.specs.declared.Mv.{Mv}
@@ -39,7 +39,7 @@ module _ (v : Mv) (fr : SFits w16 v.row) (fc : SFits w16 v.col) where
   at : (i j : ℕ) → i < 16 → j < 4 → get_or (sixteen_spelled v) (4 * i + j) 0 ≡ get_or (spelled v) j 0
   at i j h k =
       let e : (4 * i + j) % 4 ≡ j = omega arith in
-      get_d-tab 64 (λ i. get_or (spelled v) (i % 4) 0) (4 * i + j) 0 (omega arith) ∙ ap (λ (n : ℕ). get_or (spelled v) n 0) e
+      get_or-tab 64 (λ i. get_or (spelled v) (i % 4) 0) (4 * i + j) 0 (omega arith) ∙ ap (λ (n : ℕ). get_or (spelled v) n 0) e
 
   first : (i : ℕ) → i < 16 → get_or (sixteen_spelled v) (4 * i) 0 ≡ low_byte v.row
   first i h = let e : 4 * i ≡ 4 * i + 0 = omega arith in ap (λ (n : ℕ). get_or (sixteen_spelled v) n 0) e ∙ at i 0 h (omega arith)

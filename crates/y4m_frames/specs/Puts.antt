@@ -7,7 +7,7 @@ use Rattle.std.proofs.Math.Seq.{drop-append-add}
 use Rattle.std.proofs.lemmas.List.{set_split}
 use Rattle.rfc6386.specs.Number.{clamped}
 use Rattle.rfc6386.specs.Raster.{tab, raster}
-use Rattle.rfc6386.proofs.Laws.Raster.{length-tab, get_d-tab, is-tab, tab_ext, length-raster, next_row, row_fits}
+use Rattle.rfc6386.proofs.Laws.Raster.{length-tab, get_or-tab, is-tab, tab_ext, length-raster, next_row, row_fits}
 use Rattle.y4m_frames.specs.Inner.{put}
 
 -- ---- a list laid over another
@@ -63,12 +63,12 @@ tab_append n m f = sym (is-tab 0 (n + m) f both (length-append (tab n f) rest �
     both = tab n f ++ rest
 
     at : (i : ℕ) → i < n + m → (t : Bool) → ltb i n ≡ t → get_or both i 0 ≡ f i
-    at i h true e = let k = ltb-true i n e in get_or-append (tab n f) rest 0 i (omega (arith, length-tab n f)) ∙ get_d-tab n f i 0 k
+    at i h true e = let k = ltb-true i n e in get_or-append (tab n f) rest 0 i (omega (arith, length-tab n f)) ∙ get_or-tab n f i 0 k
     at i h false e =
         let k = ltb-false i n e in
         let p : i ≡ length (tab n f) + (i - n) = omega (arith, length-tab n f) in
         let q : n + (i - n) ≡ i = omega arith in
-        ap (λ (j : ℕ). get_or both j 0) p ∙ get_or-append-add (tab n f) rest (i - n) 0 ∙ get_d-tab m g (i - n) 0 (omega arith) ∙ ap f q
+        ap (λ (j : ℕ). get_or both j 0) p ∙ get_or-append-add (tab n f) rest (i - n) 0 ∙ get_or-tab m g (i - n) 0 (omega arith) ∙ ap f q
 
 pub tab_next : (n : ℕ) (f : ℕ → ℕ) → tab (n + 1) f ≡ tab n f ++ f n ∷ []
 unfolding tab

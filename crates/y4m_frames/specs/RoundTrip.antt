@@ -4,7 +4,7 @@ use Rattle.std.proofs.Common.{sym, ap, ap₂, ◌∙◌, append_assoc, arith, le
 use Rattle.std.proofs.Math.ListN.{get_or-append}
 use Rattle.rfc6386.specs.Number.{clamped}
 use Rattle.rfc6386.specs.Raster.{tab, raster}
-use Rattle.rfc6386.proofs.Laws.Raster.{is-tab, get_d-raster, raster_ext, tab-raster, row_fits}
+use Rattle.rfc6386.proofs.Laws.Raster.{is-tab, get_or-raster, raster_ext, tab-raster, row_fits}
 use Rattle.y4m_header.specs.Words.{same}
 use Rattle.y4m_header.specs.Laws.{same_equal}
 use Rattle.y4m_frames.specs.Frames.{frame_mark, half, blocks, plain, whole, frame_length, padded, cropped, padded_plane, cropped_plane, padded_frame, file_frame}
@@ -32,7 +32,7 @@ half_odd n = omega arith
 pub padded_sample : (file : List ℕ) (at : ℕ) (p : Plane) (r c : ℕ) → r < p.high → c < p.wide
     → get_or (padded_plane file at p) (r * p.wide + c) 0 ≡ get_or file (at + clamped (pos r) p.height * p.width + clamped (pos c) p.width) 0
 unfolding padded
-padded_sample file at p r c h k = get_d-raster p.high p.wide (λ r c. get_or file (at + clamped (pos r) p.height * p.width + clamped (pos c) p.width) 0) r c h k
+padded_sample file at p r c h k = get_or-raster p.high p.wide (λ r c. get_or file (at + clamped (pos r) p.height * p.width + clamped (pos c) p.width) 0) r c h k
 
 -- ---- a plane padded and cropped
 -- the bytes of a list from k on
@@ -59,7 +59,7 @@ plane_back file frame at to p s e =
         let back : at + r * p.width + c ≡ at + (r * p.width + c) = omega arith in
         ap (λ (i : ℕ). get_or frame i 0) there
         ∙ e (r * p.wide + c) (omega (arith, row_fits r p.high p.wide (omega arith)))
-        ∙ get_d-raster p.high p.wide (λ r c. get_or file (at + clamped (pos r) p.height * p.width + clamped (pos c) p.width) 0) r c (omega arith) (omega arith)
+        ∙ get_or-raster p.high p.wide (λ r c. get_or file (at + clamped (pos r) p.height * p.width + clamped (pos c) p.width) 0) r c (omega arith) (omega arith)
         ∙ ap₂ (λ (i j : ℕ). get_or file (at + i * p.width + j) 0) row col
         ∙ ap (λ (i : ℕ). get_or file i 0) back
 
@@ -141,7 +141,7 @@ plane_again frame file at to p s e =
         let there : to + r * p.width + c ≡ to + (r * p.width + c) = omega arith in
         ap (λ (i : ℕ). get_or file i 0) there
         ∙ e (r * p.width + c) (omega (arith, row_fits r p.height p.width h))
-        ∙ get_d-raster p.height p.width (λ r c. get_or frame (at + r * p.wide + c) 0) r c h k
+        ∙ get_or-raster p.height p.width (λ r c. get_or frame (at + r * p.wide + c) 0) r c h k
 
 -- THEOREM. The padded frame of what is written, with what may follow it, is the frame with its edges repeated.
 pub frame_again : (frame rest : List ℕ) (s : Sizes) → Sound s → padded_frame (file_frame frame s ++ rest) s ≡ edged_frame frame s

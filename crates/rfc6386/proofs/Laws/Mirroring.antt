@@ -20,7 +20,7 @@ use Rattle.rfc6386.proofs.Laws.Tests.{and-true}
 use Rattle.rfc6386.proofs.Laws.Vectors.{vector, near, doubled_exactly, clamped-is, fraction-under, fraction-is}
 use Rattle.rfc6386.proofs.Laws.Steps.{same, step_one, step_turned}
 use Rattle.rfc6386.proofs.Laws.Samples.{place_two, six-same}
-use Rattle.rfc6386.proofs.Laws.Raster.{get_d-tab, tab_bytes, raster_ext, length-written, get_d-written, within_is, written_sample}
+use Rattle.rfc6386.proofs.Laws.Raster.{get_or-tab, tab_bytes, raster_ext, length-written, get_or-written, within_is, written_sample}
 use Rattle.rfc6386.specs.Raster.{within, written}
 use Rattle.rfc6386.specs.Refusal.{Fits}
 use Rattle.rfc6386.proofs.Laws.Blocks.{block_at}
@@ -212,12 +212,12 @@ module _ (m n o : Mirror) (p : Plane) (F : Fits p)
       ext_get_or 0 (mirrored_bytes m (mirrored_plane n p)) (mirrored_bytes o p) (length_mirrored m (mirrored_plane n p) ∙ length_mirrored n p ∙ sym (length_mirrored o p))
       (λ i h.
       let l : i < length p.bytes = omega (arith, length_mirrored m (mirrored_plane n p), length_mirrored n p) in
-      get_d-written (mirrored_bytes n p) p.stride 0 0 p.width p.height _ i (omega (arith, length_mirrored n p))
+      get_or-written (mirrored_bytes n p) p.stride 0 0 p.width p.height _ i (omega (arith, length_mirrored n p))
       ∙ at i l (within 0 p.height (i / p.stride)) (within 0 p.width (i % p.stride)) refl refl
-      ∙ sym (get_d-written p.bytes p.stride 0 0 p.width p.height _ i l))
+      ∙ sym (get_or-written p.bytes p.stride 0 0 p.width p.height _ i l))
     where
       stays : (i : ℕ) → i < length p.bytes → within 0 p.height (i / p.stride) && within 0 p.width (i % p.stride) ≡ false → get_or (mirrored_bytes n p) i 0 ≡ get_or p.bytes i 0
-      stays i l e = get_d-written p.bytes p.stride 0 0 p.width p.height _ i l ∙ ap (λ (b : Bool). cond b (sample_at p (turn n.columns p.width (i % p.stride - 0)) (turn n.rows p.height (i / p.stride - 0))) (get_or p.bytes i 0)) e
+      stays i l e = get_or-written p.bytes p.stride 0 0 p.width p.height _ i l ∙ ap (λ (b : Bool). cond b (sample_at p (turn n.columns p.width (i % p.stride - 0)) (turn n.rows p.height (i / p.stride - 0))) (get_or p.bytes i 0)) e
 
       at : (i : ℕ) → i < length p.bytes → (R C : Bool) → within 0 p.height (i / p.stride) ≡ R → within 0 p.width (i % p.stride) ≡ C
           → cond (R && C) (sample_at (mirrored_plane n p) (turn m.columns p.width (i % p.stride - 0)) (turn m.rows p.height (i / p.stride - 0))) (get_or (mirrored_bytes n p) i 0)
@@ -401,7 +401,7 @@ sent_mirrored : (m : Mirror) (vs : List Mv) (i j : ℕ) → i < 4 → j < 4
     → sent (mirrored_vectors m vs) (i * 4 + j) ≡ mirrored_vector m (sent vs (turn m.rows 4 i * 4 + turn m.columns 4 j))
 unfolding mirrored_vectors
 sent_mirrored m vs i j hi hj =
-    get_d-tab 16 (λ b. mirrored_vector m (sent vs (mirrored_subblock m b))) (i * 4 + j) zero_vector (omega arith)
+    get_or-tab 16 (λ b. mirrored_vector m (sent vs (mirrored_subblock m b))) (i * 4 + j) zero_vector (omega arith)
     ∙ ap (λ (b : ℕ). mirrored_vector m (sent vs b)) (opposite m.columns m.rows)
   where
     opposite : (C R : Bool) → mirrored_subblock (record { columns = C; rows = R }) (i * 4 + j) ≡ turn R 4 i * 4 + turn C 4 j

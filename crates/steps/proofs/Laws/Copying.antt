@@ -5,7 +5,7 @@ use Rattle.std.proofs.Common.{sym, ap, ap₂, ◌∙◌, subst, mod-lt, div-add-
 use Rattle.std.proofs.Math.Arith.{digits_div, digits_mod}
 use Rattle.std.proofs.Math.ListN.{get_or-eq_default}
 use Rattle.rfc6386.specs.Raster.{within, written}
-use Rattle.rfc6386.proofs.Laws.Raster.{is-tab, length-tab, get_d-tab, within-true, row_fits, get_d-written}
+use Rattle.rfc6386.proofs.Laws.Raster.{is-tab, length-tab, get_or-tab, within-true, row_fits, get_or-written}
 use Rattle.steps.specs.Rows.{laid}
 
 -- ---- one of n numbers from a on, and not
@@ -67,9 +67,9 @@ laying_all {d₀} {d} {to} {n} {c} {f} L h =
     (λ a b. let q : to + (i - to) ≡ i = omega arith in subst (λ (j : ℕ). get_or d j 0 ≡ f (i - to)) q (L.done (i - to) (omega arith)))
     (λ out. L.rest i (λ a b. out a (omega arith))))
 
-pub get_d-laid : (d : List ℕ) (to n : ℕ) (f : ℕ → ℕ) (i : ℕ) → i < length d → get_or (laid d to n f) i 0 ≡ cond (within to n i) (f (i - to)) (get_or d i 0)
+pub get_or-laid : (d : List ℕ) (to n : ℕ) (f : ℕ → ℕ) (i : ℕ) → i < length d → get_or (laid d to n f) i 0 ≡ cond (within to n i) (f (i - to)) (get_or d i 0)
 unfolding laid
-get_d-laid d to n f i h = get_d-tab _ _ i 0 h
+get_or-laid d to n f i h = get_or-tab _ _ i 0 h
 
 pub length-laid : (d : List ℕ) (to n : ℕ) (f : ℕ → ℕ) → length (laid d to n f) ≡ length d
 unfolding laid
@@ -78,13 +78,13 @@ length-laid d to n f = length-tab _ _
 -- an element of the row, and one beside it
 pub laid_in : (d : List ℕ) (to n : ℕ) (f : ℕ → ℕ) (k : ℕ) → to + n ≤ length d → k < n → get_or (laid d to n f) (to + k) 0 ≡ f k
 laid_in d to n f k room h =
-    get_d-laid d to n f (to + k) (omega arith)
+    get_or-laid d to n f (to + k) (omega arith)
     ∙ ap (λ (b : Bool). cond b (f (to + k - to)) (get_or d (to + k) 0)) (within-true to n (to + k) (omega arith) (omega arith))
     ∙ ap f (omega arith)
 
 pub laid_out : (d : List ℕ) (to n : ℕ) (f : ℕ → ℕ) (i : ℕ) → i < length d → (to ≤ i → i < to + n → ⊥) → get_or (laid d to n f) i 0 ≡ get_or d i 0
 laid_out d to n f i h out =
-    get_d-laid d to n f i h ∙ ap (λ (b : Bool). cond b (f (i - to)) (get_or d i 0)) (within-false to n i out)
+    get_or-laid d to n f i h ∙ ap (λ (b : Bool). cond b (f (i - to)) (get_or d i 0)) (within-false to n i out)
 
 -- two rows one behind the other are one
 pub laid_parts : (d : List ℕ) (to a b : ℕ) (f g h : ℕ → ℕ) → to + a + b ≤ length d → ((i : ℕ) → i < a → f i ≡ h i) → ((i : ℕ) → i < b → g i ≡ h (a + i))
@@ -180,7 +180,7 @@ writing_more {d₀} {d} {d'} {stride} {x} {y} {w} {rows} {r} {f} W across h e =
           let a = f (i / stride - y) (i % stride - x) in
           let b = within x w (i % stride) in
           ap (λ (k : List ℕ). get_or k i 0) e
-          ∙ get_d-laid d to w (f r) i (omega (arith, W.size))
+          ∙ get_or-laid d to w (f r) i (omega (arith, W.size))
           ∙ ap (cond (within to w i) (f r (i - to))) (W.done i l)
           ∙ ap (λ (k : ℕ). cond (within to w k) (f r (k - to)) (cond (within y r (i / stride) && b) a (get_or d₀ i 0))) (sym (div-add-mod' i stride))
           ∙ turned stride x y w r (i / stride) (i % stride) (get_or d₀ i 0) f across (λ p. mod-lt i (omega arith));
@@ -199,5 +199,5 @@ pub written_look : (d : List ℕ) {d' : List ℕ} (s x y w rows : ℕ) (f : ℕ 
     → within y rows q ≡ b → within x w m ≡ c → get_or d' (q * s + m) 0 ≡ cond (b && c) (f (q - y) (m - x)) (get_or d (q * s + m) 0)
 written_look d s x y w rows f e q m hm h b c eb ec =
     ap (λ (l : List ℕ). get_or l (q * s + m) 0) e
-    ∙ get_d-written d s x y w rows f (q * s + m) h
+    ∙ get_or-written d s x y w rows f (q * s + m) h
     ∙ rw (digits_div q hm, digits_mod q hm, eb, ec) refl

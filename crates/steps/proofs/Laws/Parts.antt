@@ -3,7 +3,7 @@ use Rattle.std.specs.Prelude.{◌≡◌, refl, Bool, true, false, cond, ◌&&◌
 use Rattle.std.proofs.Common.{sym, ap, ◌∙◌, inl, inr, ⊎_elim, arith, le-leb, lt-ltb, ltb-true, ltb-false, leb-false, ext_get_or}
 use Rattle.std.proofs.lemmas.Bool.{lt-leb}
 use Rattle.rfc6386.specs.Raster.{written, within}
-use Rattle.rfc6386.proofs.Laws.Raster.{get_d-written, length-written, within_is}
+use Rattle.rfc6386.proofs.Laws.Raster.{get_or-written, length-written, within_is}
 use Rattle.steps.specs.Side.{Side}
 
 -- ---- sides
@@ -62,10 +62,10 @@ module _ (d : List ℕ) (s x y w h k : ℕ) (f : ℕ → ℕ → ℕ) where
       at i l =
           let q = i / s in
           let m = i % s in
-          get_d-written d₁ s x (y + h) w k (λ r c. f (h + r) c) i (omega (arith, n₁))
-          ∙ ap (cond (within (y + h) k q && within x w m) (f (h + (q - (y + h))) (m - x))) (get_d-written d s x y w h f i l)
+          get_or-written d₁ s x (y + h) w k (λ r c. f (h + r) c) i (omega (arith, n₁))
+          ∙ ap (cond (within (y + h) k q && within x w m) (f (h + (q - (y + h))) (m - x))) (get_or-written d s x y w h f i l)
           ∙ two (f (q - y) (m - x)) (f (h + (q - (y + h))) (m - x)) (get_or d i 0) (within y h q) (within (y + h) k q) (within x w m)
           (λ e. let W = within_is (y + h) k q e in let z : h + (q - (y + h)) ≡ q - y = omega (arith, W.from) in ap (λ (j : ℕ). f j (m - x)) z)
           ∙ sym
-          (get_d-written d s x y w (h + k) f i l
+          (get_or-written d s x y w (h + k) f i l
           ∙ ap (λ (b : Bool). cond (b && within x w m) (f (q - y) (m - x)) (get_or d i 0)) (within_parts y h k q))

@@ -3,7 +3,7 @@ use Rattle.std.specs.Prelude.{◌≡◌, refl, cond, List, ℕ, ◌+◌, ◌-◌
 use Rattle.std.proofs.Common.{sym, ◌∙◌, subst, arith, below_more, length-set, get_or-set_same, get_or-set_other}
 use Rattle.rfc6386.proofs.Laws.Raster.{is-tab}
 use Rattle.steps.specs.Rows.{laid, laid_twice}
-use Rattle.steps.proofs.Laws.Copying.{within_cases, get_d-laid, length-laid, laid_in, laid_out}
+use Rattle.steps.proofs.Laws.Copying.{within_cases, get_or-laid, length-laid, laid_in, laid_out}
 
 pub record Twice (d₀ : List ℕ) (to off w : ℕ) (f g : ℕ → ℕ) (d : List ℕ) (c : ℕ) : Type 0 where
   pub most : c ≤ w
@@ -65,7 +65,7 @@ twice_all {d₀} {d} {to} {off} {w} {c} {f} {g} T h apart =
     within_cases to w i (λ b. get_or d i 0 ≡ cond b (f (i - to)) (get_or d₀ i 0))
     (λ a b. let q : to + (i - to) ≡ i = omega arith in subst (λ (j : ℕ). get_or d j 0 ≡ f (i - to)) q (T.first (i - to) (omega arith)))
     (λ out'. T.rest i (λ a b. out' a (omega arith)) (λ a b. out a (omega arith)))
-    ∙ sym (get_d-laid d₀ to w f i (omega (arith, length-laid d₀ to w f)))))
+    ∙ sym (get_or-laid d₀ to w f i (omega (arith, length-laid d₀ to w f)))))
 
 -- ---- what stands where, afterwards
 module _ (d : List ℕ) (to off w : ℕ) (f g : ℕ → ℕ) (apart : w ≤ off) (room : to + off + w ≤ length d) where

@@ -10,7 +10,7 @@ use Rattle.rfc6386.specs.Filter.{taps_of, step}
 use Rattle.rfc6386.specs.Raster.{raster, written}
 use Rattle.rfc6386.specs.Picture.{six_at, step_at, halo_sample, halo_block}
 use Rattle.rfc6386.specs.Clips.{step_clip, halo_clip, halo_clips}
-use Rattle.rfc6386.proofs.Laws.Raster.{is-tab, length-raster, get_d-raster, raster_ext, tab-raster, written_all, written_ext}
+use Rattle.rfc6386.proofs.Laws.Raster.{is-tab, length-raster, get_or-raster, raster_ext, tab-raster, written_all, written_ext}
 use Rattle.rfc6386.proofs.Laws.Steps.{same_six}
 use Rattle.rfc6386.specs.declared.FilterSet.{FilterSet}
 use Rattle.steps.specs.Rows.{Held}
@@ -19,7 +19,7 @@ use Rattle.steps.specs.Window.{window_list, put_at, beside, along, six_down, win
 module _ (n : ℕ) (src : List ℕ) (at pitch : ℕ) where
   pub window_at : (r c : ℕ) → r < n → c < n → get_or (window_list n src at pitch) (r * n + c) 0 ≡ get_or src (at + r * pitch + c) 0
   unfolding window_list
-  window_at r c hr hc = get_d-raster n n _ r c hr hc
+  window_at r c hr hc = get_or-raster n n _ r c hr hc
 
 -- THEOREM. Six neighbours of the list are six neighbours of the window, and a step over the ones is a step over the others.
 pub window_six : (n : ℕ) (src : List ℕ) (at pitch r c : ℕ) → r < n → c + 5 < n
@@ -139,7 +139,7 @@ module _ (n : ℕ) (l m : List ℕ) {b : List ℕ} (h : b ≡ beside n l m) wher
   unfolding beside
   look r c hr hc t e i ei =
       ap₂ (λ (k : List ℕ) (i : ℕ). get_or k i 0) h ei
-      ∙ get_d-raster n (n + n) _ r c hr hc
+      ∙ get_or-raster n (n + n) _ r c hr hc
       ∙ ap (λ (t : Bool). cond t (get_or l (r * n + c) 0) (get_or m (r * n + (c - n)) 0)) e
 
   pub put_left : (out : List ℕ) (stride x y : ℕ) {o : List ℕ} → o ≡ written out stride x y n n (λ r c. get_or b (0 + r * (n + n) + c) 0) → o ≡ put_at out stride x y n l

@@ -8,7 +8,7 @@ use native.Mathlib.Omega.{arith}
 use lib.ListN.{get_or}
 use Rattle.rfc6386.specs.Raster.{written}
 use Rattle.rfc6386.specs.Picture.{halo_block}
-use Rattle.rfc6386.proofs.Laws.Raster.{get_d-raster, written_ext}
+use Rattle.rfc6386.proofs.Laws.Raster.{get_or-raster, written_ext}
 use Rattle.rfc6386.specs.declared.FilterSet.{FilterSet}
 use Rattle.steps.specs.Rows.{Room}
 use Rattle.steps.specs.Window.{window_list, window_sample, put_at, Strips}
@@ -25,7 +25,7 @@ sample : (set : FilterSet) (l : List ℕ) (at pitch mx my r c : ℕ) → r < 8 �
 unfolding halo_block
 sample set l at pitch mx my r c hr hc =
     window_sample_lem 8 set l at pitch mx my r c hr hc
-    ∙ sym (ap (λ (i : ℕ). get_or (halo_block 8 set (window_list 13 l at pitch) mx my) i 0) (omega arith) ∙ get_d-raster 8 8 _ r c hr hc)
+    ∙ sym (ap (λ (i : ℕ). get_or (halo_block 8 set (window_list 13 l at pitch) mx my) i 0) (omega arith) ∙ get_or-raster 8 8 _ r c hr hc)
 
 -- the two strips put one below the other are the block
 below : (set : FilterSet) (l : List ℕ) (at pitch mx my : ℕ) (d : List ℕ) (stride x y : ℕ) {d₁ d₂ s : List ℕ}

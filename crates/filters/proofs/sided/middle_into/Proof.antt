@@ -8,7 +8,7 @@ use native.Mathlib.Omega.{arith}
 use lib.ListN.{get_or}
 use Rattle.rfc6386.specs.Raster.{written}
 use Rattle.rfc6386.specs.Picture.{halo_block}
-use Rattle.rfc6386.proofs.Laws.Raster.{get_d-raster, written_ext}
+use Rattle.rfc6386.proofs.Laws.Raster.{get_or-raster, written_ext}
 use Rattle.rfc6386.specs.declared.FilterSet.{FilterSet}
 use Rattle.steps.specs.Rows.{Held}
 use Rattle.steps.specs.Window.{window_list, window_sample, put_at}
@@ -29,7 +29,7 @@ copied n {m} set src at pitch d stride x y bytes e w =
     (λ r c hr hc.
     middle_sample set src at pitch bytes r c
     ∙ window_sample_lem n set src at pitch 0 0 r c hr hc
-    ∙ sym (ap (λ (i : ℕ). get_or (halo_block n set (window_list (n + 5) src at pitch) 0 0) i 0) (omega arith) ∙ get_d-raster n n _ r c hr hc))
+    ∙ sym (ap (λ (i : ℕ). get_or (halo_block n set (window_list (n + 5) src at pitch) 0 0) i 0) (omega arith) ∙ get_or-raster n n _ r c hr hc))
     ∙ ap (λ (k : ℕ). put_at d stride x y k (halo_block k set (window_list (k + 5) src at pitch) 0 0)) (sym e)
 
 -- the rows of the middle

@@ -11,7 +11,7 @@ use lib.Seq.{get_or-set_same, get_or-set_other}
 use mir.Syntax.{w16}
 use Rattle.signed.specs.Held.{got}
 use Rattle.rfc6386.specs.Raster.{tab}
-use Rattle.rfc6386.proofs.Laws.Raster.{is-tab, length-tab, get_d-tab}
+use Rattle.rfc6386.proofs.Laws.Raster.{is-tab, length-tab, get_or-tab}
 use Rattle.residue.specs.Transform.{at, inverse_wht}
 use Rattle.residue.specs.Coefficients.{block, seeded_at, seeded}
 use Rattle.residue.specs.Inner.{Low, Bounded}
@@ -47,11 +47,11 @@ all c {f} {l} {out} {b} ef el s h =
     (λ p q.
     let e : i ≡ 16 * (i / 16) = omega arith in
     ap (at out) e ∙ s.done (i / 16) (omega arith) ∙ ap (λ (x : List ℤ). at x (i / 16)) ef)
-    (λ q. s.rest i (λ j m e. q (omega (arith, s.most)) (omega arith)) ∙ ap (λ (x : List ℤ). at x i) el ∙ get_d-tab 384 (λ i. at c (16 + i)) i (pos 0) k))
+    (λ q. s.rest i (λ j m e. q (omega (arith, s.most)) (omega arith)) ∙ ap (λ (x : List ℤ). at x i) el ∙ get_or-tab 384 (λ i. at c (16 + i)) i (pos 0) k))
 
 bounded : (c : List ℤ) → Low c 0 16 16383 → Bounded 0 16383 (block c 0)
 unfolding block
-bounded c l = record { small = λ k p q. subst (λ (z : ℤ). nat_abs z ≤ 16383) (sym (get_d-tab 16 (λ k. at c (0 + k)) k (pos 0) q)) (l.low k q) }
+bounded c l = record { small = λ k p q. subst (λ (z : ℤ). nat_abs z ≤ 16383) (sym (get_or-tab 16 (λ k. at c (0 + k)) k (pos 0) q)) (l.low k q) }
 
 abbrev invariant-loop : tie.invariant-loop
 invariant-loop c first out₀ b₀ out b = Seeding first out₀ out b
