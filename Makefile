@@ -185,7 +185,7 @@ install-check:
 	diff -u $(EXPECTED) target/installed/printed
 
 clean:
-	rm -rf target
+	rm -rf target crates/*/out
 
 target/demo/lamp_panel: $(HOST) $(DRAWING) include/threshowl.h $(ARCHIVE) | tools
 	mkdir -p target/demo
@@ -213,9 +213,17 @@ tools:
 	tools/x86-64-tools
 
 # rt knows itself what has changed.
-target/staticlib/lib%.a: FORCE
-	@echo "Proving and building lib$*.a, a line for each crate: some ten minutes the first time, seconds where nothing changed."
-	rt staticlib $*
+target/staticlib/libthreshowl.a: FORCE
+	@echo "Proving and building libthreshowl.a: some ten minutes the first time, seconds where nothing changed."
+	mkdir -p $(@D)
+	cd crates/threshowl && rt lib
+	cp crates/threshowl/out/libthreshowl.a $@
+
+# The crate `shims` is a library of Rattle's; shims_c exports its functions for C.
+target/staticlib/libshims.a: FORCE
+	mkdir -p $(@D)
+	cd crates/shims_c && rt lib
+	cp crates/shims_c/out/libshims_c.a $@
 
 rust-named:
 	@[ -n "$(RUST)" ] || { echo "say which Rust: make ... RUST=FOLDER-OF-motion_comp.rs" >&2; exit 2; }
