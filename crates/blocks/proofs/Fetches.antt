@@ -8,13 +8,13 @@ use lib.ListN.{replicate}
 use lib.Signed.{mag}
 use mir.Syntax.{w16, w64}
 use mir.Val.{hbits, to_z, of_z}
-use Rattle.signed.specs.Held.{Within, Held, got, named, better, add-within, shr-within}
+use Rattle.signed.specs.Held.{Within, Held, got, named, better, lit, sub, add-within, shr-within}
 use Rattle.rfc6386.specs.Vector.{whole_part}
 use Rattle.rfc6386.specs.Picture.{Plane}
 use Rattle.rfc6386.specs.Refusal.{if_done}
 use Rattle.rfc6386.specs.Block.{shown}
 use Rattle.rfc6386.proofs.Laws.Refusals.{PlaneAccepts, done, refused}
-use Rattle.blocks.specs.Places.{Source}
+use Rattle.blocks.specs.Places.{Source, halo_start}
 use Rattle.blocks.proofs.Squares.{source_as}
 
 -- z, what `origin` gave of a place and a vector's component
@@ -24,6 +24,11 @@ placed at m z h f ok e =
     let here : Within (pos at) 16383 0 = omega arith in
     let m' = got w16 m f in
     better (named (got w64 z ok) (e ∙ ap (λ (k : ℤ). pos at +ℤ whole_part k) m'.is)) (add-within here (shr-within 7 m'.within))
+
+-- two before it, where a halo starts
+abbrev pub halo_placed : (at : ℕ) (m z : ℤ) → at < 16384 → mag m < 2 ^ hbits w16 → mag z < 2 ^ hbits w64 → z ≡ pos at +ℤ whole_part (to_z w16 (of_z w16 m))
+    → Held w64 (halo_start at m) 20478 4098
+halo_placed at m z h f ok e = sub (placed at m z h f ok e) (lit 2 tt) tt
 
 module _ {p : Plane} {x y : ℕ} where
   pub under_x : PlaneAccepts p x y → x < 16384

@@ -1,6 +1,5 @@
 -- Running totals of clipped samples (request K14): one macroblock's two added, or number 16 where either sum would leave 64 bits.
 use Rattle.std.specs.Prelude.{◌≡◌, cond, ◌||◌, ℕ, ◌+◌, ltb}
-use Rattle.std.proofs.Common.{sym}
 use Rattle.rfc6386.specs.Refusal.{if_done}
 use Rattle.rfc6386.proofs.Laws.Refusals.{done, refused}
 use Rattle.prediction.specs.declared.totals.Totals.{Totals}
