@@ -8,7 +8,7 @@ use native.Mathlib.Numerals.{add-one}
 use lib.ListN.{length, get_or, take, drop, set, length-drop}
 use lib.Seq.{paste, paste-suc, take-append-le, drop-append-le, length-take-le, take_at, drop-append-add, drop-drop, take-add, get_or-drop}
 use lib.Dec.{ltb}
-use borrow.Author.Tests.{le-leb, lt-leb, leb-true, ltb-true, ltb-false}
+use borrow.Author.Tests.{leb-true, ltb-true, ltb-false}
 use Rattle.ivf.specs.Format.{frame_length, complete, frames_from, bytes4, count_in}
 use Rattle.ivf.specs.Mending.{total, frame_count, kept, counted, mended, not_ivf, no_room, Mends}
 use Rattle.ivf.specs.Inner.{complete_length, Sized, Passed, Passes, all_frames, copied, Copies, Writes}
@@ -16,20 +16,6 @@ use Rattle.ivf.specs.Laws.{past_end, frames_follow, frames_end, kept_lies, mends
 use Rattle.ivf.specs.declared.frames.Frames.{Frames}
 
 -- ---- one frame
-pub is-complete : (file : List ℕ) (at : ℕ) → at + frame_length file at ≤ length file → complete_length file at ≡ frame_length file at
-is-complete file at h = simp (le-leb (at + frame_length file at) (length file) h)
-
-pub not-complete : (file : List ℕ) (at : ℕ) → length file < at + frame_length file at → complete_length file at ≡ 0
-not-complete file at h = simp (lt-leb (at + frame_length file at) (length file) h)
-
--- a length of 0 says that the frame is not complete, and any other is the frame's
-pub incomplete : (file : List ℕ) (at n : ℕ) → n ≡ complete_length file at → n ≡ 0 → complete file at ≡ false
-incomplete file at n e none = go (complete file at) refl e
-  where
-    go : (b : Bool) → complete file at ≡ b → n ≡ cond b (frame_length file at) 0 → complete file at ≡ false
-    go true t q = absurd (omega arith)
-    go false t q = t
-
 pub record Completes (file : List ℕ) (at n : ℕ) : Type 0 where
   pub is : n ≡ frame_length file at
   pub inside : at + n ≤ length file
@@ -104,11 +90,6 @@ pub record Copying (file out₀ out : List ℕ) (done : ℕ) (f : Frames) : Type
   pub up_to : f.end < done + 512 → complete file f.end ≡ false
   pub long : length out ≡ length out₀
   pub bytes : out ≡ copied file out₀ done
-
--- nothing is copied yet
-pub copying_none : (file out : List ℕ) (f : Frames) → Passes file 32 512 f → Copying file out out 0 f
-copying_none file out f p =
-    record { passed = p.passed; on = omega arith; up_to = λ h. p.up_to (omega arith); long = refl; bytes = refl }
 
 -- a turn: what was passed is copied, and f is passed next
 pub copying_more : (file out₀ out out' : List ℕ) (done : ℕ) (e f : Frames) → Copying file out₀ out done e

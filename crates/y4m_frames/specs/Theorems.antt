@@ -1,6 +1,6 @@
 -- Theorems of the calls, from their contracts `Reads` and `Writes` alone: those of `read_frame` and `write_frame`, and of the calls for C.
 -- Assumes nothing.
-use Rattle.std.specs.Prelude.{◌≡◌, refl, Bool, true, false, cond, not, ◌&&◌, List, [], ◌++◌, ℕ, ◌+◌, ◌≤◌, ltb, eqb, length, take, drop}
+use Rattle.std.specs.Prelude.{◌≡◌, refl, Bool, true, false, cond, not, ◌&&◌, List, [], ◌++◌, ℕ, ◌≤◌, ltb, eqb, length, take, drop}
 use Rattle.std.proofs.Common.{sym, ap, ◌∙◌, arith, mul-le-mul, length-append, length-take, ltb-false, eq-eqb}
 use Rattle.std.proofs.lemmas.Bool.{eqb-false}
 use Rattle.y4m_header.specs.Words.{same}

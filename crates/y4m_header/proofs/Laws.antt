@@ -45,9 +45,6 @@ pub record Passed (b : ℕ) (l : List ℕ) (i : ℕ) : Type 0 where
   pub inside : i ≤ length l
   pub rest : length (before b l) ≡ i + length (before b (drop i l))
 
-pub passed_none : (b : ℕ) (l : List ℕ) → Passed b l 0
-passed_none b l = record { inside = omega arith; rest = omega arith }
-
 pub passed_more : (b : ℕ) (l : List ℕ) (i : ℕ) → i < length l → (get_or l i 0 ≡ b → ⊥) → Passed b l i → Passed b l (i + 1)
 passed_more b l i h ne p =
     let e = ap (λ (m : List ℕ). length (before b m)) (drop_next l i h) ∙ ap length (before_other b (get_or l i 0) (drop (i + 1) l) ne) in
@@ -79,9 +76,6 @@ pub record Alike (a b : List ℕ) (i : ℕ) : Type 0 where
   pub long : length a ≡ length b
   pub inside : i ≤ length a
   pub rest : same a b ≡ same (drop i a) (drop i b)
-
-pub alike_none : (a b : List ℕ) → length a ≡ length b → Alike a b 0
-alike_none a b e = record { long = e; inside = omega arith; rest = refl }
 
 alike_next : (a b : List ℕ) (i : ℕ) → i < length a → Alike a b i → same a b ≡ same (get_or a i 0 ∷ drop (i + 1) a) (get_or b i 0 ∷ drop (i + 1) b)
 alike_next a b i h p =
@@ -135,9 +129,6 @@ pub record Counted (l : List ℕ) (v i : ℕ) : Type 0 where
 
 pub counted_small : (l : List ℕ) (v i : ℕ) → Counted l v i → v ≤ 99999
 counted_small l v i p = let a = p.few in let b = p.inside in let c = p.least in omega (arith, most_5 i (omega arith))
-
-pub counted_none : (l : List ℕ) → length l ≤ 5 → Counted l 0 0
-counted_none l h = record { few = h; inside = omega arith; least = omega arith; value = refl; good = refl }
 
 is_digit : (b : ℕ) → 48 ≤ b → b ≤ 57 → digit b ≡ true
 is_digit b h k = ap (λ (t : Bool). t && leb b 57) (le-leb 48 b h) ∙ le-leb b 57 k
@@ -431,9 +422,6 @@ newline file limit n e b q =
     (lt-ltb (length (line file)) (length (take 256 file)) (omega (arith, length-take 256 file)))
     ∙ ap (λ (m : List ℕ). heading (told (words m)) (length (line file) + 1)) l
     ∙ ap (λ (k : ℕ). heading (told (words (take n file))) (k + 1)) (sym is)
-
-pub line_lies : (file : List ℕ) (limit n : ℕ) → limit ≡ min 256 (length file) → Before 10 (take limit file) n → (n ≤ 256) × (n ≤ length file)
-line_lies file limit n e b = let inside = b.inside in let long = length-take limit file in (omega arith, omega arith)
 
 -- the call's two answers, as the code has them
 pub refuses : (file : List ℕ) (limit n : ℕ) (r : Header) → limit ≡ min 256 (length file) → Before 10 (take limit file) n → n ≡ limit → r ≡ refused → r ≡ header_of file

@@ -1,5 +1,5 @@
 -- Laws of words: equal ones, what stands before a byte, a line parted at its spaces. Assumes nothing.
-use Rattle.std.specs.Prelude.{◌≡◌, refl, Bool, true, false, cond, ◌&&◌, List, [], ◌∷◌, ◌++◌, ℕ, suc, ◌+◌, ◌<◌, leb, eqb, length, drop}
+use Rattle.std.specs.Prelude.{◌≡◌, refl, Bool, true, false, cond, ◌&&◌, List, [], ◌∷◌, ◌++◌, ℕ, suc, ◌<◌, leb, eqb, length, drop}
 use Rattle.std.proofs.Common.{ap, ap₂, ◌∙◌, arith, leb-true, eq-eqb, ne_eqb, eqb-true}
 use Rattle.std.proofs.lemmas.Bool.{eqb-false}
 use Rattle.y4m_header.specs.Words.{before, onto, words, same, digit, digits}
