@@ -12,7 +12,7 @@ use borrow.Author.Tests.{leb-true, ltb-true, ltb-false}
 use Rattle.ivf.specs.Format.{frame_length, complete, frames_from, bytes4, count_in}
 use Rattle.ivf.specs.Mending.{total, frame_count, kept, counted, mended, not_ivf, no_room, Mends}
 use Rattle.ivf.specs.Inner.{complete_length, Sized, Passed, Passes, all_frames, copied, Copies, Writes}
-use Rattle.ivf.specs.Laws.{past_end, frames_follow, frames_end, kept_lies, mends}
+use Rattle.ivf.proofs.Definitions.{past_end, frames_follow, frames_end, kept_lies, mends}
 use Rattle.ivf.specs.declared.frames.Frames.{Frames}
 
 -- ---- one frame

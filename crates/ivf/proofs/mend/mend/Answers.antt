@@ -1,7 +1,7 @@
 -- What `ivf::mend::mend` leaves: the two refusals in their order, and the mended file.
 use Rattle.std.proofs.Common.{true, false, refl, sym, ap, ◌∙◌, subst, arith, length, ltb-false}
 use Rattle.ivf.specs.Mending.{kept, no_room, Mends}
-use Rattle.ivf.specs.Laws.{kept_lies, sized, mends}
+use Rattle.ivf.proofs.Definitions.{kept_lies, sized, mends}
 use Rattle.ivf.specs.declared.Mended.{Mended}
 use Rattle.ivf.specs.declared.frames.Frames.{Frames}
 use Rattle.ivf.proofs.Laws.{writes_done}

@@ -1,7 +1,7 @@
 -- What `ivf::mend::no_room` says: with room for the file there is room for what is kept, and otherwise the frames are passed.
 use Rattle.std.proofs.Common.{sym, ap, arith, ltb, le-ltb}
 use Rattle.ivf.specs.Mending.{kept, no_room}
-use Rattle.ivf.specs.Laws.{kept_lies}
+use Rattle.ivf.proofs.Definitions.{kept_lies}
 use Rattle.ivf.specs.declared.frames.Frames.{Frames}
 use Rattle.ivf.proofs.Laws.{passed_none, passed_file}
 use Rattle.ivf.proofs.mend.no_room.Goals as goal

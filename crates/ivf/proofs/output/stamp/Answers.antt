@@ -1,6 +1,6 @@
 -- What `ivf::output::stamp` leaves: its four stores are those of `counted`.
 use Rattle.std.proofs.Common.{arith}
-use Rattle.ivf.specs.Counts.{counted-sets}
+use Rattle.ivf.proofs.Counts.{counted-sets}
 use Rattle.ivf.proofs.output.stamp.Goals as goal
 
 pub returns : goal.returns

@@ -1,6 +1,6 @@
 -- What `ivf::output::write_mended` leaves: the copy, then the count over it.
 use Rattle.std.proofs.Common.{arith}
-use Rattle.ivf.specs.Laws.{kept_lies}
+use Rattle.ivf.proofs.Definitions.{kept_lies}
 use Rattle.ivf.proofs.Laws.{counted-copied}
 use Rattle.ivf.proofs.output.write_mended.Goals as goal
 

@@ -1,5 +1,5 @@
 -- What `y4m_frames::frames::crop_frame` leaves: the mark and the three planes, one after another.
-use Rattle.y4m_frames.specs.Calls.{cropped_laid}
+use Rattle.y4m_frames.proofs.Calls.{cropped_laid}
 use Rattle.y4m_frames.proofs.frames.crop_frame.Goals as goal
 
 pub returns : goal.returns

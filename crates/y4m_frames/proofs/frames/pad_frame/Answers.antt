@@ -1,5 +1,5 @@
 -- What `y4m_frames::frames::pad_frame` leaves: the three planes, one after another.
-use Rattle.y4m_frames.specs.Calls.{padded_laid}
+use Rattle.y4m_frames.proofs.Calls.{padded_laid}
 use Rattle.y4m_frames.proofs.frames.pad_frame.Goals as goal
 
 pub returns : goal.returns

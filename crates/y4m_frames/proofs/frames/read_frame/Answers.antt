@@ -1,7 +1,7 @@
 -- What `y4m_frames::frames::read_frame` reports and leaves: the tests in their order, and the padded frame.
 use Rattle.std.proofs.Common.{sym, ap, ◌∙◌, arith, length}
 use Rattle.y4m_frames.specs.Frames.{frame_length, padded_samples}
-use Rattle.y4m_frames.specs.Calls.{read_1, read_end, read_13, read_14, read_7, reads-stopped, reads_done}
+use Rattle.y4m_frames.proofs.Calls.{read_1, read_end, read_13, read_14, read_7, reads-stopped, reads_done}
 use Rattle.y4m_frames.specs.declared.planes.Sizes.{Sizes}
 use Rattle.y4m_frames.proofs.frames.read_frame.Goals as goal
 

@@ -1,7 +1,7 @@
 -- What `y4m_frames::frames::write_frame` reports and leaves: the tests in their order, and the file's frame.
 use Rattle.std.proofs.Common.{sym, ap, ◌∙◌, arith, length}
 use Rattle.y4m_frames.specs.Frames.{frame_length, padded_samples}
-use Rattle.y4m_frames.specs.Calls.{write_1, write_14, write_7, writes-stopped, writes_done}
+use Rattle.y4m_frames.proofs.Calls.{write_1, write_14, write_7, writes-stopped, writes_done}
 use Rattle.y4m_frames.specs.declared.planes.Sizes.{Sizes}
 use Rattle.y4m_frames.proofs.frames.write_frame.Goals as goal
 

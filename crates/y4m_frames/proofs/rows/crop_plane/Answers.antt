@@ -1,7 +1,7 @@
 -- What `y4m_frames::rows::crop_plane` leaves: each turn lays a row.
 use Rattle.std.proofs.Common.{arith}
-use Rattle.y4m_frames.specs.Puts.{stacked_none}
-use Rattle.y4m_frames.specs.Planes.{crop_more, crop_all}
+use Rattle.y4m_frames.proofs.Puts.{stacked_none}
+use Rattle.y4m_frames.proofs.PlaneLaws.{crop_more, crop_all}
 use Rattle.y4m_frames.proofs.rows.crop_plane.Goals as goal
 
 pub loop-r-init : goal.loop-r-init

@@ -1,7 +1,7 @@
 -- The loop of `y4m_frames::rows::crop_plane` has laid r rows.
 use Rattle.std.proofs.Common.{◌-◌, ◌≤◌}
-use Rattle.y4m_frames.specs.Puts.{Stacked}
-use Rattle.y4m_frames.specs.Planes.{in_row}
+use Rattle.y4m_frames.proofs.Puts.{Stacked}
+use Rattle.y4m_frames.proofs.PlaneLaws.{in_row}
 use Rattle.y4m_frames.proofs.rows.crop_plane.Given as goal
 
 abbrev pub invariant-loop-r : goal.invariant-loop-r

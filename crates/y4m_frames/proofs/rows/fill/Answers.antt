@@ -1,6 +1,6 @@
 -- What `y4m_frames::rows::fill` leaves: n times b laid over the output.
 use Rattle.std.proofs.Common.{refl, arith}
-use Rattle.y4m_frames.specs.Puts.{laid_none, laid_more, laid_all}
+use Rattle.y4m_frames.proofs.Puts.{laid_none, laid_more, laid_all}
 use Rattle.y4m_frames.proofs.rows.fill.Goals as goal
 
 pub loop-i-init : goal.loop-i-init

@@ -1,6 +1,6 @@
 -- The loop of `y4m_frames::rows::fill` has written i elements.
 use Rattle.std.proofs.Common.{◌-◌, ◌≤◌}
-use Rattle.y4m_frames.specs.Puts.{Laid}
+use Rattle.y4m_frames.proofs.Puts.{Laid}
 use Rattle.y4m_frames.proofs.rows.fill.Given as goal
 
 abbrev pub invariant-loop-i : goal.invariant-loop-i

@@ -1,6 +1,6 @@
 -- What `y4m_frames::rows::pad_row` leaves: a row, and then the last of its samples.
 use Rattle.std.proofs.Common.{refl, arith}
-use Rattle.y4m_frames.specs.Planes.{row_laid}
+use Rattle.y4m_frames.proofs.PlaneLaws.{row_laid}
 use Rattle.y4m_frames.proofs.rows.pad_row.Goals as goal
 
 pub returns : goal.returns

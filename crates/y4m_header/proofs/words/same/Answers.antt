@@ -1,6 +1,6 @@
 -- What `y4m_header::words::same` compares: the lengths, then byte by byte.
 use Rattle.std.proofs.Common.{sym, arith}
-use Rattle.y4m_header.specs.Laws.{same_lengths}
+use Rattle.y4m_header.proofs.Definitions.{same_lengths}
 use Rattle.y4m_header.proofs.Laws.{alike_more, alike_not, alike_all}
 use Rattle.y4m_header.proofs.words.same.Goals as goal
 

@@ -4,10 +4,10 @@ use Rattle.std.specs.Prelude.{◌≡◌, refl, Bool, true, false, cond, not, ◌
 use Rattle.std.proofs.Common.{sym, ap, ◌∙◌, arith, mul-le-mul, length-append, length-take, ltb-false, eq-eqb}
 use Rattle.std.proofs.lemmas.Bool.{eqb-false}
 use Rattle.y4m_header.specs.Words.{same}
-use Rattle.y4m_header.specs.Laws.{same_lengths}
+use Rattle.y4m_header.proofs.Definitions.{same_lengths}
 use Rattle.y4m_frames.specs.Frames.{frame_mark, sizes, file_samples, padded_samples, frame_length, padded_frame, file_frame, is_size, stopped, read_frame, write_frame, output_after, Reads, Writes}
-use Rattle.y4m_frames.specs.Calls.{are_sized, sizes_sound, length-padded_frame, length-file_frame, read_end, read_13, read_14, read_done, write_done, kept_output, new_output}
-use Rattle.y4m_frames.specs.RoundTrip.{frame_back, edged_frame, frame_again, padded-edged}
+use Rattle.y4m_frames.proofs.Calls.{are_sized, sizes_sound, length-padded_frame, length-file_frame, read_end, read_13, read_14, read_done, write_done, kept_output, new_output}
+use Rattle.y4m_frames.proofs.RoundTrip.{frame_back, edged_frame, frame_again, padded-edged}
 use Rattle.y4m_frames.specs.declared.Frame.{Frame}
 use Rattle.y4m_frames.specs.declared.planes.Sizes.{Sizes}
 

@@ -8,7 +8,7 @@ use Rattle.rfc6386.proofs.Laws.Tests.{and-true}
 use Rattle.y4m_header.specs.Words.{same}
 use Rattle.y4m_frames.specs.Frames.{frame_mark, half, blocks, sizes, plain, whole, file_samples, padded_samples, frame_length, padded, cropped, padded_plane, cropped_plane, padded_frame, file_frame, is_size, stopped, read_frame, write_frame, output_after, Reads, Writes}
 use Rattle.y4m_frames.specs.Inner.{put, PlaneSound, Sound}
-use Rattle.y4m_frames.specs.Puts.{put-put}
+use Rattle.y4m_frames.proofs.Puts.{put-put}
 use Rattle.y4m_frames.specs.declared.Frame.{Frame}
 use Rattle.y4m_frames.specs.declared.planes.Plane.{Plane}
 use Rattle.y4m_frames.specs.declared.planes.Sizes.{Sizes}

@@ -7,8 +7,8 @@ use Rattle.std.proofs.Math.Dec.{eqb}
 use borrow.Author.Tests.{eq-eqb, ne_eqb, not-true}
 use Rattle.y4m_header.specs.Words.{same, worth}
 use Rattle.y4m_header.specs.HeaderLine.{jpeg420, size, nothing, broken, tell_width, tell_height, tell_colour, tell, tell_all, complete, heading, header_of}
-use Rattle.y4m_header.specs.Laws.{both, Word, AllWords, no_word, word}
-use Rattle.y4m_header.specs.Theorems.{line_of, header_means, IsSize, size_is, size_word}
+use Rattle.y4m_header.proofs.Definitions.{both, Word, AllWords, no_word, word}
+use Rattle.y4m_header.proofs.Theorems.{line_of, header_means, IsSize, size_is, size_word}
 use Rattle.y4m_header.specs.declared.header_line.Told.{Told}
 
 -- the digits a after W, the digits b after H

@@ -10,8 +10,8 @@ use Rattle.std.proofs.Math.ListN.{length, drop}
 use Rattle.std.proofs.Math.Seq.{take-length, get_or-take}
 use Rattle.ivf.specs.Format.{number4, bytes4, frame_length, complete, frames, frames_from, file_frames, count_bytes, count_in}
 use Rattle.ivf.specs.Mending.{total, frame_count, kept, counted, mended, not_ivf, no_room, refused, reported, Mends}
-use Rattle.ivf.specs.Laws.{Kept, frames_follow, bounds_agree, kept_lies, frames_same, sized, ivf_same, mends}
-use Rattle.ivf.specs.Counts.{length-counted, counted_else, counted_number, counted_twice, counted_same, count_bytes_lem}
+use Rattle.ivf.proofs.Definitions.{Kept, frames_follow, bounds_agree, kept_lies, frames_same, sized, ivf_same, mends}
+use Rattle.ivf.proofs.Counts.{length-counted, counted_else, counted_number, counted_twice, counted_same, count_bytes_lem}
 use Rattle.ivf.specs.declared.Mended.{Mended}
 
 -- ---- the frames

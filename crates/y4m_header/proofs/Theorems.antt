@@ -6,7 +6,7 @@ use Rattle.std.proofs.Math.Seq.{take-append-add}
 use Rattle.std.proofs.lemmas.Bool.{eqb-false}
 use Rattle.y4m_header.specs.Words.{before, words, same, digit, digits, worth}
 use Rattle.y4m_header.specs.HeaderLine.{mark, jpeg420, size, nothing, broken, tell_width, tell_height, tell_colour, tell, tell_all, told, line, ended, complete, refused, heading, header_of}
-use Rattle.y4m_header.specs.Laws.{both, same_equal, above, Without, none, more, append_without, digits_without, before_end, before_without, before_split, joined, Word, AllWords, no_word, word, words-joined, joined_without, parted}
+use Rattle.y4m_header.proofs.Definitions.{both, same_equal, above, Without, none, more, append_without, digits_without, before_end, before_without, before_split, joined, Word, AllWords, no_word, word, words-joined, joined_without, parted}
 use Rattle.y4m_header.specs.declared.header_line.Told.{Told}
 use Rattle.y4m_header.specs.declared.Header.{Header}
 

@@ -7,7 +7,7 @@ use Rattle.rfc6386.proofs.Laws.Raster.{length-tab, row_fits}
 use Rattle.y4m_frames.specs.Frames.{padded, cropped, plain, whole}
 use Rattle.y4m_frames.specs.Inner.{put, Padding, Cropping, PlaneSound}
 use Rattle.y4m_frames.specs.declared.planes.Plane.{Plane}
-use Rattle.y4m_frames.specs.Puts.{put-put, row_padded, Stacked, stacked_more, stacked_all}
+use Rattle.y4m_frames.proofs.Puts.{put-put, row_padded, Stacked, stacked_more, stacked_all}
 
 -- a row is its samples and then the last of them
 pub row_laid : (d mid out s : List ℕ) (from w at pw last : ℕ) → 1 ≤ w → w ≤ pw → at + pw ≤ length d → mid ≡ put d at (tab w (λ c. get_or s (from + c) 0))

@@ -6,10 +6,10 @@ use Rattle.rfc6386.specs.Number.{clamped}
 use Rattle.rfc6386.specs.Raster.{tab, raster}
 use Rattle.rfc6386.proofs.Laws.Raster.{is-tab, get_or-raster, raster_ext, tab-raster, row_fits}
 use Rattle.y4m_header.specs.Words.{same}
-use Rattle.y4m_header.specs.Laws.{same_equal}
+use Rattle.y4m_header.proofs.Definitions.{same_equal}
 use Rattle.y4m_frames.specs.Frames.{frame_mark, half, blocks, plain, whole, frame_length, padded, cropped, padded_plane, cropped_plane, padded_frame, file_frame}
 use Rattle.y4m_frames.specs.Inner.{PlaneSound, Sound}
-use Rattle.y4m_frames.specs.Calls.{length-padded, length-cropped}
+use Rattle.y4m_frames.proofs.Calls.{length-padded, length-cropped}
 use Rattle.y4m_frames.specs.declared.planes.Plane.{Plane}
 use Rattle.y4m_frames.specs.declared.planes.Sizes.{Sizes}
 
