@@ -1,5 +1,5 @@
 -- A tally in eight lanes: a row of 16 more, and all of them together. Assumes nothing.
-use mathlib.Core.Path.{◌≡◌, refl, sym, ap, ap₂, ◌∙◌}
+use mathlib.Core.Path.{◌≡◌, sym, ap, ap₂, ◌∙◌}
 use mathlib.Core.List.{List}
 use Prim.Native.Nat.{ℕ, zero, ◌+◌, ◌<◌, ◌≤◌}
 use native.Mathlib.Omega.{arith}
@@ -16,9 +16,6 @@ pub record Adding (l₀ : List ℕ) (h : ℕ → ℕ) (l : List ℕ) (c : ℕ) :
   pub done : (k : ℕ) → k < c → get_or l k 0 ≡ get_or l₀ k 0 + h k
   pub rest : (k : ℕ) → c ≤ k → get_or l k 0 ≡ get_or l₀ k 0
 
-pub adding_none : {l₀ : List ℕ} {h : ℕ → ℕ} → Adding l₀ h l₀ 0
-adding_none = record { size = refl; done = λ k h. absurd (omega arith); rest = λ k h. refl }
-
 pub adding_more : {l₀ l : List ℕ} {h : ℕ → ℕ} {c p : ℕ} → Adding l₀ h l c → c < length l₀ → p ≡ h c → Adding l₀ h (set l c (get_or l c 0 + p)) (c + 1)
 adding_more {l₀} {l} {h} {c} {p} A room e =
     record {
@@ -29,9 +26,6 @@ adding_more {l₀} {l} {h} {c} {p} A room e =
           (get_or-set_same l c (get_or l c 0 + p) 0 (omega (arith, A.size)) ∙ ap₂ ◌+◌ (A.rest c (omega arith)) e);
       rest = λ k m. get_or-set_other l c k (get_or l c 0 + p) 0 (λ q. omega arith) ∙ A.rest k (omega arith);
     }
-
-pub adding_all : {l₀ l : List ℕ} {h : ℕ → ℕ} {c : ℕ} → Adding l₀ h l c → 8 ≤ c → Added l₀ h l
-adding_all A m = record { size = A.size; each = λ k n. A.done k (omega arith) }
 
 -- ---- rows: lane c has h q c of each row
 pub record Lanes (h : ℕ → ℕ → ℕ) (l : List ℕ) (r : ℕ) : Type 0 where

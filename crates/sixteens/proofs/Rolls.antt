@@ -1,9 +1,9 @@
 -- A window that rolls down a first pass: one more row of it, and its ring one place further. Assumes nothing.
-use mathlib.Core.Path.{◌≡◌, refl, sym, ap, ap₂, ◌∙◌, subst}
+use mathlib.Core.Path.{◌≡◌, refl, sym, ap, ap₂, ◌∙◌}
 use mathlib.Core.Bool.{cond}
 use mathlib.Core.List.{List}
 use Prim.Native.Nat.{ℕ, zero, ◌+◌, ◌-◌, ◌*◌, ◌<◌, ◌≤◌}
-use native.Mathlib.Nat.{add-mul, le_antisymm}
+use native.Mathlib.Nat.{add-mul}
 use native.Mathlib.Omega.{arith}
 use borrow.Author.Count.{below_more}
 use lib.IntN.{ℤ}
@@ -15,7 +15,7 @@ use Rattle.steps.specs.Taps.{two_taps}
 use Rattle.steps.specs.Window.{six_down, over, mix_at}
 use Rattle.steps.specs.declared.taps.Taps.{Taps}
 use Rattle.steps.proofs.Laws.Copying.{within_cases, get_or-laid, length-laid, laid_in, laid_out, laid_parts}
-use Rattle.sixteens.specs.Rolling.{Rolled, below, turn, Rolling, At, Lie, ring_six, ring_step}
+use Rattle.sixteens.specs.Rolling.{Rolled, below, turn, Rolling, At, ring_six, ring_step}
 use Rattle.sixteens.specs.declared.ring.Ring.{Ring}
 
 -- no rows yet
@@ -131,9 +131,6 @@ rolling_more {pass} {r} {n} {k} {to} {m} R h low et ek e =
           (λ c l. ap (λ (q : ℕ). pass q c) ek);
     }
 
-pub rolling_all : {pass : ℕ → ℕ → ℕ} {r n k : ℕ} {m : List ℕ} → n ≤ k → k ≤ n → Rolling pass r n m → Rolling pass r k m
-rolling_all {pass} {r} {m = m} h l R = subst (λ (n : ℕ). Rolling pass r n m) (le_antisymm h l) R
-
 -- the oldest row is done with
 pub rolling_down : {pass : ℕ → ℕ → ℕ} {r : ℕ} {m : List ℕ} → Rolling pass r 6 m → Rolling pass (r + 1) 5 m
 rolling_down {pass} {r} {m} R =
@@ -160,20 +157,6 @@ ring_turned {r} A e =
       e = ap (λ (w : Ring). w.e) e ∙ A.f ∙ omega arith;
       f = ap (λ (w : Ring). w.f) e ∙ A.a ∙ omega arith;
     }
-
-pub ring_lies : {r : ℕ} {ring : Ring} → At r ring → Lie 96 ring
-ring_lies {r} A =
-    record {
-      a = omega (arith, A.a);
-      b = omega (arith, A.b);
-      c = omega (arith, A.c);
-      d = omega (arith, A.d);
-      e = omega (arith, A.e);
-      f = omega (arith, A.f);
-    }
-
-pub lie_in : {n k : ℕ} {ring : Ring} → k ≡ n → Lie n ring → Lie k ring
-lie_in {ring = ring} e L = subst (λ (n : ℕ). Lie n ring) (sym e) L
 
 -- six samples down it are six down the pass
 pub ring_six_lem : {pass : ℕ → ℕ → ℕ} {r : ℕ} {m : List ℕ} {ring : Ring} → At r ring → Rolling pass r 6 m → (c : ℕ) → c < 16 → ring_six m ring c ≡ six_down pass r c
