@@ -17,7 +17,7 @@ use Rattle.rfc6386.specs.Sums.{sum_rows}
 use Rattle.rfc6386.specs.Clips.{predicted_clip, block_clips, clips_by}
 use Rattle.rfc6386.specs.Macroblock.{subblock}
 use Rattle.rfc6386.specs.Report.{one_in, luma}
-use Rattle.rfc6386.proofs.Laws.Raster.{raster_ext, get_or-written, length-written, written_ext, written_all, Within, within_is}
+use Rattle.rfc6386.proofs.Laws.Raster.{raster_ext, get_or-written, length-written, written_ext, written_all, within_is}
 use Rattle.rfc6386.proofs.Laws.Blocks.{block_at, block_part}
 use Rattle.rfc6386.proofs.Laws.Fetched.{cost, length-block, length_tiles, cost_most, one_in_lem, luma_apart, luma_one, luma_least, luma_split, luma_most}
 use Rattle.rfc6386.proofs.Laws.Sums.{sum_le, rows_ext, sum_quarters}
