@@ -14,8 +14,8 @@ use Rattle.residue.specs.Transform.{at}
 use Rattle.quantisers.specs.Factors.{dequantised}
 use Rattle.quantisers.specs.Levels.{block_factor, split_factor, whole_factor, products}
 use Rattle.quantisers.specs.Inner.{sixteen, Part, Firsts}
-use Rattle.quantisers.specs.Ranges.{zero_level, product_at, length-products}
-use Rattle.quantisers.specs.Keeping.{Kept}
+use Rattle.quantisers.proofs.Ranges.{zero_level, product_at, length-products}
+use Rattle.quantisers.proofs.Keeping.{Kept}
 use Rattle.quantisers.specs.declared.Factors.{Factors}
 
 -- ---- a loop over all of a part

@@ -2,9 +2,5 @@
 -- What a reader has to believe: the definitions, in this order
 pub mod Factors
 pub mod Levels
--- What is proved of them: the tables, ranges, which levels are refused; and what the functions of this crate promise each other
-pub mod Tables
-pub mod Ranges
-pub mod Refused
+-- What the functions of this crate promise each other. What is proved of the definitions stands in proofs/
 pub mod Inner
-pub mod Keeping

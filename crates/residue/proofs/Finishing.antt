@@ -13,8 +13,9 @@ use Rattle.rfc6386.specs.Filter.{clamp255}
 use Rattle.rfc6386.proofs.Laws.Raster.{get_or-tab}
 use Rattle.residue.specs.Transform.{at, dct, down, along, eighth, transform, inverse_dct, summed}
 use Rattle.residue.specs.Coefficients.{block, residue_at}
-use Rattle.residue.specs.Short.{OnlyFirst, short-dct}
-use Rattle.residue.specs.Ranges.{dct_within, within_size}
+use Rattle.residue.specs.Inner.{OnlyFirst}
+use Rattle.residue.proofs.ShortPaths.{short-dct}
+use Rattle.residue.proofs.Ranges.{dct_within, within_size}
 use Rattle.residue.specs.Inner.{Bounded, Open, Inside, Area}
 use Rattle.residue.proofs.Areas.{either, area_old, area_join}
 

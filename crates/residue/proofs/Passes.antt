@@ -12,7 +12,7 @@ use mir.Facts.{to_z-of_z}
 use Rattle.signed.specs.Held.{Held, Within, put, got, cast, better, inside, fits_in, size-within}
 use Rattle.residue.specs.declared.transform.Four.{Four}
 use Rattle.residue.specs.declared.transform.Row.{Row}
-use Rattle.residue.specs.Ranges.{within_size}
+use Rattle.residue.proofs.Ranges.{within_size}
 use Rattle.rfc6386.specs.Raster.{tab}
 use Rattle.residue.specs.Transform.{Kernel, at, down, along, eighth, transform}
 use Rattle.residue.specs.Inner.{points, Small, Bounded, column, row}

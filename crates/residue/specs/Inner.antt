@@ -1,10 +1,15 @@
 -- What private functions of this crate promise each other: a pass of a transform in records of four, the sizes of numbers, and samples of which a
 -- part is finished.
-use Rattle.std.specs.Prelude.{ℕ, ◌+◌, ◌*◌, ◌%◌, ◌<◌, ◌≤◌, ◌≡◌, List, length, get_or, ℤ, nat_abs}
+use Rattle.std.specs.Prelude.{ℕ, ◌+◌, ◌*◌, ◌%◌, ◌<◌, ◌≤◌, ◌≡◌, List, length, get_or, ℤ, pos, nat_abs}
 use Rattle.rfc6386.specs.Raster.{tab}
 use Rattle.residue.specs.Transform.{Kernel, at, eighth}
 use Rattle.residue.specs.declared.transform.Four.{Four}
 use Rattle.residue.specs.declared.transform.Row.{Row}
+
+-- ---- blocks
+-- all sixteen numbers but the first are 0
+pub record OnlyFirst (x : List ℤ) : Type 0 where
+  pub rest : (i : ℕ) → 1 ≤ i → i < 16 → at x i ≡ pos 0
 
 -- ---- four numbers
 abbrev pub points : Kernel → ℤ → ℤ → ℤ → ℤ → Four

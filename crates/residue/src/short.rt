@@ -2,7 +2,7 @@
 ghost use Rattle.std.specs.Prelude.{◌≡◌, true, ◌↔◌, pos};
 ghost use Rattle.residue.specs.Transform.{inverse_wht};
 ghost use Rattle.residue.specs.Inner.{Bounded};
-ghost use Rattle.residue.specs.Short.{OnlyFirst};
+ghost use Rattle.residue.specs.Inner.{OnlyFirst};
 
 use crate::transform::inverse_wht_4x4;
 

@@ -6,8 +6,8 @@ use Rattle.residue.specs.Coefficients.{split_beyond, split_refusal}
 use Rattle.quantisers.specs.Factors.{factors_of}
 use Rattle.quantisers.specs.Levels.{split_factor, products, split_products}
 use Rattle.quantisers.specs.Inner.{SplitOffered}
-use Rattle.quantisers.specs.Ranges.{length-products}
-use Rattle.quantisers.specs.Keeping.{split_offered, offered_none, offered-skipped}
+use Rattle.quantisers.proofs.Ranges.{length-products}
+use Rattle.quantisers.proofs.Keeping.{split_offered, offered_none, offered-skipped}
 use Rattle.quantisers.proofs.Writing.{reached_none, reached_more, reached_all, split_y, split_uv}
 use Rattle.quantisers.specs.declared.Factors.{Factors}
 use Rattle.quantisers.proofs.coefficients.split_coefficients.Goals as goal

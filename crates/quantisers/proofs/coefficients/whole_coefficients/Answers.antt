@@ -6,8 +6,8 @@ use Rattle.residue.specs.Coefficients.{seeded, whole_beyond, whole_refusal}
 use Rattle.quantisers.specs.Factors.{factors_of}
 use Rattle.quantisers.specs.Levels.{whole_factor, products, whole_products}
 use Rattle.quantisers.specs.Inner.{WholeOffered}
-use Rattle.quantisers.specs.Ranges.{length-products}
-use Rattle.quantisers.specs.Keeping.{whole_offered, offered_none, offered-skipped}
+use Rattle.quantisers.proofs.Ranges.{length-products}
+use Rattle.quantisers.proofs.Keeping.{whole_offered, offered_none, offered-skipped}
 use Rattle.quantisers.proofs.Writing.{reached_none, reached_more, reached_all, whole_y2, whole_others, split_y, split_uv}
 use Rattle.quantisers.specs.declared.Factors.{Factors}
 use Rattle.quantisers.proofs.coefficients.whole_coefficients.Goals as goal

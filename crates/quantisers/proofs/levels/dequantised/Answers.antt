@@ -1,7 +1,7 @@
 -- What is returned is the product, which thirty-two bits hold.
 use Rattle.std.proofs.Common.{ap₂, arith, ◌≤◌, pos, ◌*ℤ◌, w32}
 use Rattle.signed.specs.Held.{Held, par, cast, nat_at, put, full-range}
-use Rattle.quantisers.specs.Ranges.{product_fits}
+use Rattle.quantisers.proofs.Ranges.{product_fits}
 use Rattle.quantisers.proofs.levels.dequantised.Goals as goal
 
 pub returns : goal.returns

@@ -3,8 +3,8 @@ use Rattle.std.proofs.Common.{◌≡◌, ap, ap₂, ◌∙◌, arith, List, ℕ,
 use Rattle.std.specs.Int.Signed.{mag}
 use Rattle.signed.specs.Held.{got}
 use Rattle.quantisers.specs.Factors.{dc_steps, ac_steps, step_at, y2_ac_of, uv_dc_of, factors_of}
-use Rattle.quantisers.specs.Tables.{dc_table, ac_table}
-use Rattle.quantisers.specs.Ranges.{step_from}
+use Rattle.quantisers.proofs.Tables.{dc_table, ac_table}
+use Rattle.quantisers.proofs.Ranges.{step_from}
 use Rattle.quantisers.proofs.quantiser.factors_of.Goals as goal
 
 -- a step, its base and delta read from their bits

@@ -1,7 +1,7 @@
 -- `finish::finish_mb` meets its contract: three planes. Assumes nothing.
 use Rattle.std.proofs.Common.{rules, refl, arith}
 use Rattle.residue.specs.Coefficients.{finished}
-use Rattle.residue.specs.Pieces.{plane_finished}
+use Rattle.residue.proofs.Pieces.{plane_finished}
 use Rattle.reconstruction.proofs.finish.finish_mb.Goals as goal
 
 pub returns : goal.returns

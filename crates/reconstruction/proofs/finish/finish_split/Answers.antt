@@ -5,7 +5,7 @@ use Rattle.rfc6386.specs.Refusal.{or_else}
 use Rattle.rfc6386.proofs.Laws.Refusals.{refused_is}
 use Rattle.residue.specs.Coefficients.{split_refusal}
 use Rattle.residue.specs.Reconstruction.{split_finished}
-use Rattle.residue.specs.Domain.{split_accepted, zero_late, open_low}
+use Rattle.residue.proofs.Refused.{split_accepted, zero_late, open_low}
 use Rattle.reconstruction.proofs.Laws.{unless_skipped, unless_done}
 use Rattle.reconstruction.proofs.finish.finish_split.Goals as goal
 

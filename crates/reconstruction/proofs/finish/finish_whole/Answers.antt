@@ -6,7 +6,7 @@ use Rattle.rfc6386.proofs.Laws.Refusals.{refused_is}
 use Rattle.residue.specs.Coefficients.{seeded, finished, whole_refusal}
 use Rattle.residue.specs.Reconstruction.{whole_finished}
 use Rattle.residue.specs.Inner.{Open}
-use Rattle.residue.specs.Domain.{whole_accepted, zero_late, open-seeded, length-seeded}
+use Rattle.residue.proofs.Refused.{whole_accepted, zero_late, open-seeded, length-seeded}
 use Rattle.reconstruction.proofs.Laws.{unless_skipped, unless_done}
 use Rattle.reconstruction.proofs.finish.finish_whole.Goals as goal
 

@@ -2,7 +2,7 @@
 use Rattle.std.proofs.Common.{◌∙◌}
 use Rattle.rfc6386.specs.Vector.{lowering_of}
 use Rattle.rfc6386.specs.Macroblock.{lent, whole_pixel}
-use Rattle.quantisers.specs.Keeping.{whole_finishes_alike}
+use Rattle.quantisers.proofs.Keeping.{whole_finishes_alike}
 use Rattle.reconstruction.proofs.from_levels.reconstruct_inter_mb_whole_pixel_from_levels.Goals as goal
 
 pub returns : goal.returns

@@ -2,7 +2,7 @@
 use Rattle.std.proofs.Common.{◌∙◌}
 use Rattle.rfc6386.specs.Vector.{lowering_of}
 use Rattle.rfc6386.specs.Macroblock.{lent, split}
-use Rattle.quantisers.specs.Keeping.{split_finishes_alike}
+use Rattle.quantisers.proofs.Keeping.{split_finishes_alike}
 use Rattle.reconstruction.proofs.from_levels.reconstruct_split_mv_mb_from_levels.Goals as goal
 
 pub returns : goal.returns

@@ -9,7 +9,7 @@ use Rattle.rfc6386.proofs.Laws.Raster.{is-tab, get_or-tab}
 use Rattle.residue.specs.Transform.{at, inverse_wht}
 use Rattle.residue.specs.Coefficients.{block, seeded_at, seeded}
 use Rattle.residue.specs.Inner.{Low, Bounded}
-use Rattle.residue.specs.Domain.{first_cases}
+use Rattle.residue.proofs.Refused.{first_cases}
 use Rattle.residue.proofs.blocks.seeded.Invariants.{Seeding}
 use Rattle.residue.proofs.blocks.seeded.Goals as goal
 

@@ -1,7 +1,7 @@
 -- Each way out by what the definition says there.
 use Rattle.std.proofs.Common.{true, false, arith}
 use Rattle.residue.specs.Coefficients.{split_beyond, split_refusal}
-use Rattle.residue.specs.Domain.{by-true, split_low, low_split, counted_out, skipped, tried}
+use Rattle.residue.proofs.Refused.{by-true, split_low, low_split, counted_out, skipped, tried}
 use Rattle.residue.proofs.domain.split_refusal.Goals as goal
 
 pub returns-then-c-ne384 : goal.returns-then-c-ne384

@@ -4,7 +4,7 @@ use Rattle.std.specs.Prelude.{not, eqb}
 use borrow.Author.Tests.{eq-eqb, eqb-true}
 use Rattle.residue.specs.Coefficients.{whole_beyond}
 use Rattle.residue.specs.Inner.{Low, Open}
-use Rattle.residue.specs.Domain.{by-true, whole_low, low_whole, whole_of_all, true-not-false}
+use Rattle.residue.proofs.Refused.{by-true, whole_low, low_whole, whole_of_all, true-not-false}
 use Rattle.residue.proofs.domain.whole_beyond.Goals as goal
 
 -- the last test decides

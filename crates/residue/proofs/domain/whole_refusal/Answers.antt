@@ -1,7 +1,7 @@
 -- Each way out by what the definition says there.
 use Rattle.std.proofs.Common.{sym, ◌∙◌, true, false, arith}
 use Rattle.residue.specs.Coefficients.{whole_beyond, whole_refusal}
-use Rattle.residue.specs.Domain.{counted_out, skipped, tried}
+use Rattle.residue.proofs.Refused.{counted_out, skipped, tried}
 use Rattle.residue.proofs.domain.whole_refusal.Goals as goal
 
 pub returns-then-c-ne400 : goal.returns-then-c-ne400

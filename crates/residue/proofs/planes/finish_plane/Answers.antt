@@ -1,7 +1,7 @@
 -- A row of blocks a turn.
 use Rattle.std.proofs.Common.{◌≡◌, subst, arith, ℕ, ◌*◌}
 use Rattle.residue.specs.Inner.{Area}
-use Rattle.residue.specs.Domain.{open_part}
+use Rattle.residue.proofs.Refused.{open_part}
 use Rattle.residue.proofs.Finishing.{in_plane, plane_more, row_fits_in, sixteenth}
 use Rattle.residue.proofs.planes.finish_plane.Goals as goal
 

@@ -2,7 +2,7 @@
 use Rattle.std.proofs.Common.{◌≡◌, ap, ◌∙◌, arith, List, ◌++◌, ℕ, length, ℤ}
 use Rattle.residue.specs.Coefficients.{finished_plane}
 use Rattle.residue.specs.Inner.{Area, piece}
-use Rattle.residue.specs.Pieces.{three_pieces, piece_finished, piece_kept}
+use Rattle.residue.proofs.Pieces.{three_pieces, piece_finished, piece_kept}
 use Rattle.residue.proofs.Finishing.{in_plane}
 use Rattle.residue.proofs.planes.finish_samples.Goals as goal
 

@@ -2,7 +2,7 @@
 use Rattle.std.proofs.Common.{sym, ◌∙◌, arith, w16, w32}
 use Rattle.signed.specs.Held.{Held, got, lit, cast, add, shr}
 use Rattle.residue.specs.Transform.{at, eighth}
-use Rattle.residue.specs.Short.{short-wht}
+use Rattle.residue.proofs.ShortPaths.{short-wht}
 use Rattle.residue.proofs.Passes.{spread}
 use Rattle.residue.proofs.short.inverse_wht_quick.Goals as goal
 

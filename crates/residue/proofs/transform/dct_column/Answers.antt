@@ -2,7 +2,7 @@
 use Rattle.std.proofs.Common.{◌∙◌, ◌+◌, arith, w16, w32}
 use Rattle.signed.specs.Held.{Held, Within, got, cast}
 use Rattle.residue.specs.Transform.{at, dct}
-use Rattle.residue.specs.Ranges.{dct_within}
+use Rattle.residue.proofs.Ranges.{dct_within}
 use Rattle.residue.proofs.Passes.{coefficient, points_of, points-small}
 use Rattle.residue.proofs.transform.dct_column.Goals as goal
 

@@ -1,7 +1,7 @@
 -- Four of the sixteen numbers, each in 32 bits, and what the transform makes of their ranges.
 use Rattle.std.proofs.Common.{◌∙◌, ◌+◌, arith}
 use Rattle.residue.specs.Transform.{wht}
-use Rattle.residue.specs.Ranges.{wht_within}
+use Rattle.residue.proofs.Ranges.{wht_within}
 use Rattle.residue.proofs.Passes.{coefficient, points_of, points-small}
 use Rattle.residue.proofs.transform.wht_column.Goals as goal
 

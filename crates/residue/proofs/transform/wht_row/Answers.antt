@@ -5,7 +5,7 @@ use Rattle.signed.specs.Held.{Held, Within, par_in, size-within, lit, add, shr, 
 use Rattle.residue.specs.declared.transform.Four.{Four}
 use Rattle.residue.specs.Transform.{wht, eighth}
 use Rattle.residue.specs.Inner.{points, Small}
-use Rattle.residue.specs.Ranges.{wht_within}
+use Rattle.residue.proofs.Ranges.{wht_within}
 use Rattle.residue.proofs.Passes.{back, kept, points_of, row_of}
 use Rattle.residue.proofs.transform.wht_row.Goals as goal
 

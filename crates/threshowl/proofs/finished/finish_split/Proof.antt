@@ -3,7 +3,7 @@ use borrow.Author.Rules.{rules}
 use mathlib.Core.Path.{sym, ap, ◌∙◌}
 use mathlib.Core.Bool.{Bool}
 use Rattle.residue.specs.Coefficients.{split_refusal}
-use Rattle.residue.specs.Domain.{split_accepted, open_low}
+use Rattle.residue.proofs.Refused.{split_accepted, open_low}
 use Rattle.threshowl.specs.Finished.{finished_bytes}
 use Rattle.threshowl.proofs.finished.finish_split.Statement.{statement}
 use Rattle.threshowl.proofs.finished.finish_split.Tie as tie

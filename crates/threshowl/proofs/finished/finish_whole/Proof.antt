@@ -7,7 +7,7 @@ use lib.ListN.{length}
 use lib.IntN.{ℤ}
 use Rattle.residue.specs.Coefficients.{seeded, whole_refusal}
 use Rattle.residue.specs.Inner.{Open}
-use Rattle.residue.specs.Domain.{Whole, whole_accepted, open-seeded, length-seeded}
+use Rattle.residue.proofs.Refused.{Whole, whole_accepted, open-seeded, length-seeded}
 use Rattle.threshowl.specs.Finished.{finished_bytes}
 use Rattle.threshowl.proofs.finished.finish_whole.Statement.{statement}
 use Rattle.threshowl.proofs.finished.finish_whole.Tie as tie

@@ -11,7 +11,7 @@ use Rattle.rfc6386.proofs.Laws.Raster.{is-tab}
 use Rattle.residue.specs.Transform.{at, inverse_wht}
 use Rattle.residue.specs.Coefficients.{block, first_of_y, seeded_at, seeded, split_beyond, split_refusal}
 use Rattle.residue.specs.Reconstruction.{finished_unless, whole_finished, split_finished}
-use Rattle.residue.specs.Domain.{first_cases, zero_late}
+use Rattle.residue.proofs.Refused.{first_cases, zero_late}
 use Rattle.rfc6386.specs.declared.Mv.{Mv}
 use Rattle.rfc6386.specs.declared.FilterSet.{FilterSet}
 use Rattle.rfc6386.specs.declared.Prediction.{Prediction}

@@ -12,7 +12,7 @@ use Rattle.rfc6386.proofs.Laws.Tests.{or-false}
 use Rattle.residue.specs.Transform.{at, inverse_wht}
 use Rattle.residue.specs.Coefficients.{block, first_of_y, seeded_at, seeded, finished, beyond, some, split_beyond, whole_beyond, residue_refusal, whole_refusal, split_refusal}
 use Rattle.residue.specs.Reconstruction.{finished_unless, whole_finished, split_finished}
-use Rattle.residue.specs.Domain.{true-not-false, some_none, low_whole, low_split, zero_late, whole_accepted, split_accepted, counted_out, skipped}
+use Rattle.residue.proofs.Refused.{true-not-false, some_none, low_whole, low_split, zero_late, whole_accepted, split_accepted, counted_out, skipped}
 use Rattle.quantisers.specs.Inner.{sixteen, Offered, WholeOffered, SplitOffered}
 use Rattle.rfc6386.specs.declared.ReconstructedMb.{ReconstructedMb}
 use Rattle.rfc6386.specs.declared.Prediction.{Prediction}

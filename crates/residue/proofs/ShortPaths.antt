@@ -3,11 +3,8 @@ use Rattle.std.specs.Prelude.{◌≡◌, refl, List, ℕ, zero, suc, ◌+◌, �
 use Rattle.std.proofs.Common.{◌∙◌, arith}
 use Rattle.signed.specs.Int.{int, sum, diff}
 use Rattle.rfc6386.specs.Raster.{tab}
+use Rattle.residue.specs.Inner.{OnlyFirst}
 use Rattle.residue.specs.Transform.{Kernel, wht, dct, at, down, along, eighth, transform, inverse_wht, inverse_dct}
-
--- all sixteen numbers but the first are 0
-pub record OnlyFirst (x : List ℤ) : Type 0 where
-  pub rest : (i : ℕ) → 1 ≤ i → i < 16 → at x i ≡ pos 0
 
 -- sixteen times (z + n) / 8
 abbrev pub flat : ℕ → ℤ → List ℤ

@@ -5,10 +5,10 @@ use Rattle.std.proofs.Math.Bool.{false, not}
 use Rattle.rfc6386.proofs.Laws.Tests.{or-false}
 use Rattle.residue.specs.Transform.{at}
 use Rattle.residue.specs.Coefficients.{first_of_y, beyond, some, split_beyond, whole_beyond, residue_refusal, whole_refusal, split_refusal}
-use Rattle.residue.specs.Domain.{by-false, some_none, none-some, skipped, tried}
+use Rattle.residue.proofs.Refused.{by-false, some_none, none-some, skipped, tried}
 use Rattle.quantisers.specs.Factors.{factors_of}
 use Rattle.quantisers.specs.Levels.{split_factor, whole_factor, products, whole_products, split_products}
-use Rattle.quantisers.specs.Ranges.{split_factor_from, whole_factor_from, product_within, product_at, length-products}
+use Rattle.quantisers.proofs.Ranges.{split_factor_from, whole_factor_from, product_within, product_at, length-products}
 use Rattle.quantisers.specs.declared.QuantIndices.{QuantIndices}
 
 -- number i of the levels is not larger than d divided by its factor

@@ -8,7 +8,7 @@ use Rattle.rfc6386.specs.Number.{floor_mod, wrap16}
 use Rattle.rfc6386.specs.Raster.{tab}
 use Rattle.residue.specs.Transform.{Kernel, wht, dct, at, down, along, eighth, transform, inverse_wht, inverse_dct}
 use Rattle.residue.specs.Inner.{Bounded}
-use Rattle.residue.specs.Ranges.{dct_within, wht_within}
+use Rattle.residue.proofs.Ranges.{dct_within, wht_within}
 
 -- in range a number is itself
 wrap_in : (z : ℤ) → Within z 32767 32767 → wrap16 z ≡ z

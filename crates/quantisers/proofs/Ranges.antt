@@ -10,7 +10,7 @@ use Rattle.rfc6386.proofs.Laws.Raster.{length-tab, get_or-tab}
 use Rattle.residue.specs.Transform.{at}
 use Rattle.quantisers.specs.Factors.{index, step_at, y2_ac_of, uv_dc_of, factors_of, dequantised}
 use Rattle.quantisers.specs.Levels.{split_factor, whole_factor, products}
-use Rattle.quantisers.specs.Tables.{Table, dc_table, ac_table, step_least, step_most}
+use Rattle.quantisers.proofs.Tables.{Table, dc_table, ac_table, step_least, step_most}
 use Rattle.quantisers.specs.declared.QuantIndices.{QuantIndices}
 use Rattle.quantisers.specs.declared.Factors.{Factors}
 
