@@ -1,5 +1,4 @@
 // A record's call, and whether it gives the record's answer.
-use check::same;
 use quantisers::QuantIndices;
 use reconstruction::{
     reconstruct_inter_mb, reconstruct_inter_mb_from_levels, reconstruct_inter_mb_whole_pixel,
@@ -48,7 +47,7 @@ fn after_y2(numbers: &[i16]) -> &[i16] {
 
 fn is(p: Prediction, r: &[u8]) -> bool {
     let samples = flat(p);
-    p.number == byte_at(r, 876) as u32 && same(&samples, part(r, 877, 384))
+    p.number == byte_at(r, 876) as u32 && samples.as_slice() == part(r, 877, 384)
 }
 
 fn whole_pixel(y: &[u8], u: &[u8], v: &[u8], r: &[u8]) -> bool {

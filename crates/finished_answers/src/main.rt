@@ -5,18 +5,16 @@
 mod calls;
 mod records;
 
-// Room for more than the file has, so that bytes after its end are noticed.
-const ROOM: usize = 262144;
+use std::fs;
+use std::io::{self, Read};
 
-fn main() {
-    let path = b"finished.bin";
-    let fd = os::open_read(path);
-    if fd < 0 {
-        os::fail(path);
-        return;
-    }
-    let mut file = [0u8; ROOM];
-    let n = io::read_full(fd, &mut file);
-    libc::close(fd);
-    records::all(&file[..n]);
+// Room for more than the file has, so that bytes after its end are noticed.
+const ROOM: u64 = 262144;
+
+fn main(rt: HostRuntime) -> io::Result<()> {
+    let mut file = Vec::new(rt.alloc());
+    fs::open(&rt, "finished.bin")?
+        .take(ROOM)
+        .read_to_end(&mut file)?;
+    records::all(&rt, file.as_slice())
 }

@@ -1,8 +1,8 @@
 // Goes through the file: the planes of a picture, the records, and a check sum.
 use crate::calls::agrees;
-use libc::STDOUT_FILENO;
 use shims::bytes::{byte_at, part};
 use shims::sums::{check_sum, long};
+use std::io;
 use std::num::{wrapping_add_u64, wrapping_add_usize};
 
 // How many answers the calls of each kind were held to, and how many differ.
@@ -52,37 +52,35 @@ fn through(file: &[u8], end: usize) -> Tally {
     t
 }
 
-fn line(name: &[u8], t: Tally, which: usize) {
+fn line(rt: &HostRuntime, name: &str, t: Tally, which: usize) -> io::Result<()> {
     if which < 6 {
-        io::write_all(STDOUT_FILENO, name);
-        io::write_all(STDOUT_FILENO, b": ");
-        io::print_decimal(STDOUT_FILENO, t.replayed[which]);
-        io::write_all(STDOUT_FILENO, b" replayed, ");
-        io::print_decimal(STDOUT_FILENO, t.differ[which]);
-        io::write_all(STDOUT_FILENO, b" differ\n");
+        let replayed = t.replayed[which];
+        let differ = t.differ[which];
+        return println!(rt; "{name}: {replayed} replayed, {differ} differ");
     }
+    Ok(())
 }
 
-fn lines(t: Tally) {
-    line(b"reconstruct_inter_mb_whole_pixel", t, 0);
-    line(b"reconstruct_inter_mb", t, 1);
-    line(b"reconstruct_split_mv_mb", t, 2);
-    line(b"reconstruct_inter_mb_whole_pixel, from levels", t, 3);
-    line(b"reconstruct_inter_mb, from levels", t, 4);
-    line(b"reconstruct_split_mv_mb, from levels", t, 5);
+fn lines(rt: &HostRuntime, t: Tally) -> io::Result<()> {
+    line(rt, "reconstruct_inter_mb_whole_pixel", t, 0)?;
+    line(rt, "reconstruct_inter_mb", t, 1)?;
+    line(rt, "reconstruct_split_mv_mb", t, 2)?;
+    line(rt, "reconstruct_inter_mb_whole_pixel, from levels", t, 3)?;
+    line(rt, "reconstruct_inter_mb, from levels", t, 4)?;
+    line(rt, "reconstruct_split_mv_mb, from levels", t, 5)
 }
 
 // Replays the file, whose last four bytes are the sum of those before them.
-pub fn all(file: &[u8]) {
+pub fn all(rt: &HostRuntime, file: &[u8]) -> io::Result<()> {
     let n = file.len();
     if n < 4 {
-        return;
+        return Ok(());
     }
     let end = n - 4;
-    lines(through(file, end));
+    lines(rt, through(file, end))?;
     if long(part(file, end, 4)) == check_sum(part(file, 0, end)) {
-        io::write_all(STDOUT_FILENO, b"the file is whole\n");
+        println!(rt; "the file is whole")
     } else {
-        io::write_all(STDOUT_FILENO, b"the file is damaged\n");
+        println!(rt; "the file is damaged")
     }
 }

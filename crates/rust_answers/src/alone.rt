@@ -1,5 +1,4 @@
 // Records of functions that take no plane. `r` is a record after its first byte.
-use check::same;
 use filters::clamp255;
 use motion_vectors::{chroma_idx_for_luma_subblock, whole_pixel_fraction_is_zero};
 use rfc6386::FilterSet;
@@ -13,7 +12,7 @@ use versions::filter_set_for_version;
 fn vector(which: u8, r: &[u8]) -> bool {
     let mv = mv_of(r);
     let mut out = [0u8; 4];
-    shim_vector(which, mv.row, mv.col, &mut out) == 0 && same(&out, part(r, 4, 4))
+    shim_vector(which, mv.row, mv.col, &mut out) == 0 && out.as_slice() == part(r, 4, 4)
 }
 
 fn no_fraction(r: &[u8]) -> bool {
@@ -35,7 +34,7 @@ fn quarter(r: &[u8]) -> bool {
 
 fn split_chroma(r: &[u8]) -> bool {
     let mut out = [0u8; 16];
-    shim_split_chroma(part(r, 0, 64), &mut out) == 0 && same(&out, part(r, 64, 16))
+    shim_split_chroma(part(r, 0, 64), &mut out) == 0 && out.as_slice() == part(r, 64, 16)
 }
 
 fn code_of(set: FilterSet) -> u8 {
@@ -85,7 +84,7 @@ fn step(r: &[u8]) -> bool {
         part(r, 2, 6),
         &mut out,
     );
-    number == 0 && same(&out, part(r, 8, 1))
+    number == 0 && out.as_slice() == part(r, 8, 1)
 }
 
 // A filter whose halo has so many samples; `out` has room for its answer.
@@ -93,7 +92,7 @@ fn filter(width: u8, halo: usize, r: &[u8], out: &mut [u8]) -> bool {
     let mx = byte_at(r, 1) as usize;
     let my = byte_at(r, 2) as usize;
     let number = shim_sixtap(width, part(r, 3, halo), mx, my, byte_at(r, 0), out);
-    number == 0 && same(out, part(r, wrapping_add_usize(3, halo), out.len()))
+    number == 0 && *out == *part(r, wrapping_add_usize(3, halo), out.len())
 }
 
 fn on_vectors(kind: u8, r: &[u8]) -> bool {

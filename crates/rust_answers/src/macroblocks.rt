@@ -1,7 +1,6 @@
 // Records of predictions. A split one also holds merging prediction to its answer, and where a version asks for the filter and the flag the
 // predictions by version are held to it too.
 use crate::tally::{MERGING, SPLIT_BY_VERSION, Tally, WHOLE_BY_VERSION, counted};
-use check::same;
 use prediction::{predict_inter_mb, predict_merging, predict_split_mv};
 use rfc6386::{Prediction, Sizes};
 use shims::bytes::{byte_at, flat, mv_of, mvs_of, part};
@@ -11,7 +10,7 @@ use versions::{predict_inter_mb_by_version, predict_split_mv_by_version};
 
 fn is(p: Prediction, answer: &[u8]) -> bool {
     let samples = flat(p);
-    p.number == 0 && same(&samples, answer)
+    p.number == 0 && samples.as_slice() == answer
 }
 
 // No version asks for six-tap with the flag.
@@ -41,7 +40,7 @@ fn whole_pixel(y: &[u8], u: &[u8], v: &[u8], sizes: Sizes, r: &[u8], t: Tally) -
     counted(
         t,
         23,
-        number == byte_at(r, 7) as u32 && same(&out, part(r, 8, 384)),
+        number == byte_at(r, 7) as u32 && out.as_slice() == part(r, 8, 384),
     )
 }
 

@@ -12,18 +12,16 @@ mod replay;
 mod report;
 mod tally;
 
-// Room for more than the file has, so that bytes after its end are noticed.
-const ROOM: usize = 524288;
+use std::fs;
+use std::io::{self, Read};
 
-fn main() {
-    let path = b"answers.bin";
-    let fd = os::open_read(path);
-    if fd < 0 {
-        os::fail(path);
-        return;
-    }
-    let mut file = [0u8; ROOM];
-    let n = io::read_full(fd, &mut file);
-    libc::close(fd);
-    report::all(&file[..n]);
+// Room for more than the file has, so that bytes after its end are noticed.
+const ROOM: u64 = 524288;
+
+fn main(rt: HostRuntime) -> io::Result<()> {
+    let mut file = Vec::new(rt.alloc());
+    fs::open(&rt, "answers.bin")?
+        .take(ROOM)
+        .read_to_end(&mut file)?;
+    report::all(&rt, file.as_slice())
 }

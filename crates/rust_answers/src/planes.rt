@@ -1,5 +1,4 @@
 // Records of functions on one plane, and how planes stand in the file.
-use check::same;
 use shims::bytes::{byte_at, fill, mv_of, part, word};
 use shims::planes::{shim_fetch, shim_filter_block, shim_filter_block_into};
 
@@ -23,7 +22,7 @@ fn fetch(side: u8, plane: &[u8], p: Plane, r: &[u8], out: &mut [u8]) -> bool {
     let y = word(part(r, 2, 2)) as usize;
     let mv = mv_of(part(r, 4, 4));
     let number = shim_fetch(side, plane, p.stride, p.w, p.h, x, y, mv.row, mv.col, out);
-    number == 0 && same(out, part(r, 8, out.len()))
+    number == 0 && *out == *part(r, 8, out.len())
 }
 
 fn block(plane: &[u8], p: Plane, r: &[u8]) -> bool {
@@ -43,7 +42,7 @@ fn block(plane: &[u8], p: Plane, r: &[u8]) -> bool {
         byte_at(r, 8),
         &mut out,
     );
-    number == 0 && same(&out, part(r, 9, 16))
+    number == 0 && out.as_slice() == part(r, 9, 16)
 }
 
 fn into(plane: &[u8], p: Plane, r: &[u8]) -> bool {
@@ -70,7 +69,7 @@ fn into(plane: &[u8], p: Plane, r: &[u8]) -> bool {
         mv.col,
         byte_at(r, 8),
     );
-    number == 0 && same(&dst, part(r, 108, 96))
+    number == 0 && dst.as_slice() == part(r, 108, 96)
 }
 
 // Whether our function of that kind gives the record's answer.

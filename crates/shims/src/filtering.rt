@@ -3,8 +3,7 @@ use crate::bytes::{fill, give, refuse};
 use crate::codes::{no_code, set_of};
 use filters::{interp, sixtap_2d, sixtap_mb_chroma, sixtap_mb_luma};
 
-#[unsafe(no_mangle)]
-pub extern "C" fn shim_interp(filter: u8, k: usize, support: &[u8], out: &mut [u8]) -> u32 {
+pub fn shim_interp(filter: u8, k: usize, support: &[u8], out: &mut [u8]) -> u32 {
     if support.len() != 6 {
         return 255;
     }
@@ -36,8 +35,7 @@ fn block_samples(width: u8) -> usize {
     }
 }
 
-#[unsafe(no_mangle)]
-pub extern "C" fn shim_sixtap(
+pub fn shim_sixtap(
     width: u8,
     halo: &[u8],
     mx: usize,

@@ -1,8 +1,7 @@
 // For tests only, and no part of the product: the functions on vectors, halos and one plane, the prediction at whole pixels, and the factors
-// of a macroblock, behind C functions on numbers and bytes, which tests/oracle compares with the Rust, tests/rfc with the RFC's, and
-// rust_answers and finished_answers replay. A call writes what the function
-// returned, zeros where that refuses, and gives its number. It gives 255 and writes nothing where a length is not the one due or a code
-// names no function.
+// of a macroblock, behind functions on numbers and bytes. shims_c gives those to C, where tests/oracle compares them with the Rust, and
+// tests/rfc with the RFC's; rust_answers and finished_answers replay them. A call writes what the function returned, zeros where that
+// refuses, and gives its number. It gives 255 and writes nothing where a length is not the one due or a code names no function.
 #![tactic(auto)]
 
 pub mod bytes;

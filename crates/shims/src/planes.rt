@@ -9,8 +9,7 @@ use prediction::predict_inter_mb_whole_pixel;
 use refusals::{or_else, plane_refusal};
 use rfc6386::{Mv, Sizes};
 
-#[unsafe(no_mangle)]
-pub extern "C" fn shim_fetch(
+pub fn shim_fetch(
     size: u8,
     plane: &[u8],
     stride: usize,
@@ -63,8 +62,7 @@ fn without_code(plane: &[u8], stride: usize, w: usize, h: usize, x: usize, y: us
     or_else(plane_refusal(plane, stride, w, h, x, y), 5)
 }
 
-#[unsafe(no_mangle)]
-pub extern "C" fn shim_filter_block(
+pub fn shim_filter_block(
     plane: &[u8],
     stride: usize,
     w: usize,
@@ -84,8 +82,7 @@ pub extern "C" fn shim_filter_block(
     give(got.number, &samples, out)
 }
 
-#[unsafe(no_mangle)]
-pub extern "C" fn shim_filter_block_into(
+pub fn shim_filter_block_into(
     dst: &mut [u8],
     dst_stride: usize,
     dst_x: usize,
@@ -119,8 +116,7 @@ pub extern "C" fn shim_filter_block_into(
     )
 }
 
-#[unsafe(no_mangle)]
-pub extern "C" fn shim_whole_pixel(
+pub fn shim_whole_pixel(
     y: &[u8],
     u: &[u8],
     v: &[u8],

@@ -2,8 +2,7 @@
 use quantisers::{QuantIndices, factors_of};
 
 // 0 and 1 ask for those of Y, 2 and 3 for those of Y2, 4 and 5 for those of chroma, DC before AC; any other gives 0.
-#[unsafe(no_mangle)]
-pub extern "C" fn shim_factor(
+pub fn shim_factor(
     which: u8,
     y_ac_qi: i32,
     y_dc_delta: i32,

@@ -9,8 +9,7 @@ fn give_vector(mv: Mv, out: &mut [u8]) -> u32 {
 }
 
 // 0 asks for the stored vector, 1 for that of chroma, 2 for one lowered to whole pixels.
-#[unsafe(no_mangle)]
-pub extern "C" fn shim_vector(which: u8, row: i16, col: i16, out: &mut [u8]) -> u32 {
+pub fn shim_vector(which: u8, row: i16, col: i16, out: &mut [u8]) -> u32 {
     let mv = Mv { row, col };
     match which {
         0 => give_vector(stored_luma_mv(mv), out),
@@ -20,8 +19,7 @@ pub extern "C" fn shim_vector(which: u8, row: i16, col: i16, out: &mut [u8]) -> 
     }
 }
 
-#[unsafe(no_mangle)]
-pub extern "C" fn shim_split_chroma(vectors: &[u8], out: &mut [u8]) -> u32 {
+pub fn shim_split_chroma(vectors: &[u8], out: &mut [u8]) -> u32 {
     if vectors.len() != 64 {
         return 255;
     }

@@ -2,21 +2,32 @@
 use crate::macroblocks::say;
 use crate::say::{labelled, text};
 use rfc6386::{Mv, Sizes};
+use std::io;
 use versions::{predict_inter_mb_by_version, predict_split_mv_by_version};
 
-fn both(y: &[u8], uv: &[u8], sizes: Sizes, at: usize, version: u8, standard: bool) {
+fn both(
+    rt: &HostRuntime,
+    y: &[u8],
+    uv: &[u8],
+    sizes: Sizes,
+    at: usize,
+    version: u8,
+    standard: bool,
+) -> io::Result<()> {
     let mv = Mv { row: 0, col: 0 };
     say(
-        b" whole ",
+        rt,
+        " whole ",
         predict_inter_mb_by_version(y, uv, uv, sizes, at, at, mv, version, standard),
-    );
+    )?;
     say(
-        b", split ",
+        rt,
+        ", split ",
         predict_split_mv_by_version(y, uv, uv, sizes, at, at, [mv; 16], version, standard),
-    );
+    )
 }
 
-fn line(version: u8) {
+fn line(rt: &HostRuntime, version: u8) -> io::Result<()> {
     let good = Sizes {
         y_stride: 16,
         u_stride: 8,
@@ -31,21 +42,21 @@ fn line(version: u8) {
         mb_cols: 0,
         mb_rows: 0,
     };
-    labelled(b"version ", version as usize);
-    text(b":");
-    both(&[200u8; 256], &[200u8; 64], good, 0, version, false);
-    text(b"; by the standard:");
-    both(&[200u8; 256], &[200u8; 64], good, 0, version, true);
-    text(b"; nothing in order:");
-    both(b"", b"", bad, 1, version, true);
-    text(b"\n");
+    labelled(rt, "version ", version as usize)?;
+    text(rt, ":")?;
+    both(rt, &[200u8; 256], &[200u8; 64], good, 0, version, false)?;
+    text(rt, "; by the standard:")?;
+    both(rt, &[200u8; 256], &[200u8; 64], good, 0, version, true)?;
+    text(rt, "; nothing in order:")?;
+    both(rt, b"", b"", bad, 1, version, true)?;
+    text(rt, "\n")
 }
 
-pub fn all() {
+pub fn all(rt: &HostRuntime) -> io::Result<()> {
     let mut version: u8 = 0;
     while version < 255 {
-        line(version);
+        line(rt, version)?;
         version += 1;
     }
-    line(255);
+    line(rt, 255)
 }

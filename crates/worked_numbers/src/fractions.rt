@@ -2,37 +2,38 @@
 use crate::say::{labelled, not_zero, outcome, text};
 use filters::{interp, sixtap_2d, sixtap_mb_chroma, sixtap_mb_luma};
 use rfc6386::FilterSet;
+use std::io;
 
 // The pair is the number and the sample.
-fn step(k: usize) {
+fn step(rt: &HostRuntime, k: usize) -> io::Result<()> {
     let made = interp(FilterSet::Sixtap, k, &[200u8; 6]);
-    labelled(b"interp, fraction ", k);
-    outcome(b": ", made.number, made.sample as usize);
-    text(b"\n");
+    labelled(rt, "interp, fraction ", k)?;
+    outcome(rt, ": ", made.number, made.sample as usize)?;
+    text(rt, "\n")
 }
 
-fn squares(mx: usize, my: usize) {
-    labelled(b"filters, fractions ", mx);
-    labelled(b" ", my);
-    text(b":");
+fn squares(rt: &HostRuntime, mx: usize, my: usize) -> io::Result<()> {
+    labelled(rt, "filters, fractions ", mx)?;
+    labelled(rt, " ", my)?;
+    text(rt, ":")?;
     let small = sixtap_2d(&[200u8; 81], mx, my, FilterSet::Bilinear);
     let block = small.samples;
-    outcome(b" block ", small.number, not_zero(&block));
+    outcome(rt, " block ", small.number, not_zero(&block))?;
     let middle = sixtap_mb_chroma(&[200u8; 169], mx, my, FilterSet::Bilinear);
     let chroma = middle.samples;
-    outcome(b", chroma ", middle.number, not_zero(&chroma));
+    outcome(rt, ", chroma ", middle.number, not_zero(&chroma))?;
     let large = sixtap_mb_luma(&[200u8; 441], mx, my, FilterSet::Bilinear);
     let luma = large.samples;
-    outcome(b", luma ", large.number, not_zero(&luma));
-    text(b"\n");
+    outcome(rt, ", luma ", large.number, not_zero(&luma))?;
+    text(rt, "\n")
 }
 
-pub fn all() {
-    step(7);
-    step(8);
-    step(18446744073709551615);
-    squares(7, 7);
-    squares(8, 0);
-    squares(0, 8);
-    squares(18446744073709551615, 0);
+pub fn all(rt: &HostRuntime) -> io::Result<()> {
+    step(rt, 7)?;
+    step(rt, 8)?;
+    step(rt, 18446744073709551615)?;
+    squares(rt, 7, 7)?;
+    squares(rt, 8, 0)?;
+    squares(rt, 0, 8)?;
+    squares(rt, 18446744073709551615, 0)
 }

@@ -2,6 +2,7 @@
 use crate::say::{every, text};
 use blocks::fetch_luma_mb_halo;
 use rfc6386::Mv;
+use std::io;
 
 // The column, or else the row, of sample i of a plane with so many columns.
 fn place(i: usize, columns: usize, across: bool) -> u8 {
@@ -40,18 +41,18 @@ fn edge(halo: &[u8; 441], across: bool) -> [u8; 21] {
     out
 }
 
-fn fetched(what: &[u8], side: usize, across: bool) {
+fn fetched(rt: &HostRuntime, what: &str, side: usize, across: bool) -> io::Result<()> {
     let plane = numbered(side, across);
     let halo = fetch_luma_mb_halo(&plane, side, side, side, 2, 2, Mv { row: 0, col: 0 });
     let samples = halo.samples;
     let shown = edge(&samples, across);
-    text(what);
-    every(&shown);
+    text(rt, what)?;
+    every(rt, &shown)
 }
 
-pub fn all() {
-    fetched(b"luma halo at column 2, width 21:", 21, true);
-    fetched(b"luma halo at column 2, width 20:", 20, true);
-    fetched(b"luma halo at row 2, height 21:", 21, false);
-    fetched(b"luma halo at row 2, height 20:", 20, false);
+pub fn all(rt: &HostRuntime) -> io::Result<()> {
+    fetched(rt, "luma halo at column 2, width 21:", 21, true)?;
+    fetched(rt, "luma halo at column 2, width 20:", 20, true)?;
+    fetched(rt, "luma halo at row 2, height 21:", 21, false)?;
+    fetched(rt, "luma halo at row 2, height 20:", 20, false)
 }

@@ -4,77 +4,113 @@ use prediction::{
     predict_inter_mb, predict_inter_mb_whole_pixel, predict_merging, predict_split_mv,
 };
 use rfc6386::{FilterSet, Mv, Prediction, Report, Sizes};
+use std::io;
 use std::num::wrapping_add_usize;
 use versions::{predict_inter_mb_by_version, predict_split_mv_by_version};
 
-pub fn say(what: &[u8], p: Prediction) {
+pub fn say(rt: &HostRuntime, what: &str, p: Prediction) -> io::Result<()> {
     let samples = p.samples;
     let y = samples.y;
     let u = samples.u;
     let v = samples.v;
     let of_chroma = wrapping_add_usize(not_zero(&u), not_zero(&v));
-    outcome(what, p.number, wrapping_add_usize(not_zero(&y), of_chroma));
+    outcome(
+        rt,
+        what,
+        p.number,
+        wrapping_add_usize(not_zero(&y), of_chroma),
+    )
 }
 
-fn say_report(what: &[u8], report: Report) {
-    say(what, report.prediction);
+fn say_report(rt: &HostRuntime, what: &str, report: Report) -> io::Result<()> {
+    say(rt, what, report.prediction)
 }
 
-fn whole(y: &[u8], u: &[u8], v: &[u8], sizes: Sizes, col: usize, row: usize) {
+fn whole(
+    rt: &HostRuntime,
+    y: &[u8],
+    u: &[u8],
+    v: &[u8],
+    sizes: Sizes,
+    col: usize,
+    row: usize,
+) -> io::Result<()> {
     let mv = Mv { row: 0, col: 0 };
     say_report(
-        b" whole ",
+        rt,
+        " whole ",
         predict_inter_mb(y, u, v, sizes, col, row, mv, false, FilterSet::Sixtap),
-    );
+    )?;
     say_report(
-        b", whole pixel ",
+        rt,
+        ", whole pixel ",
         predict_inter_mb_whole_pixel(y, u, v, sizes, col, row, mv, false),
-    );
+    )?;
     say(
-        b", by version ",
+        rt,
+        ", by version ",
         predict_inter_mb_by_version(y, u, v, sizes, col, row, mv, 0, false),
-    );
+    )
 }
 
-fn split(y: &[u8], u: &[u8], v: &[u8], sizes: Sizes, col: usize, row: usize) {
+fn split(
+    rt: &HostRuntime,
+    y: &[u8],
+    u: &[u8],
+    v: &[u8],
+    sizes: Sizes,
+    col: usize,
+    row: usize,
+) -> io::Result<()> {
     let mvs = [Mv { row: 0, col: 0 }; 16];
     say_report(
-        b", split ",
+        rt,
+        ", split ",
         predict_split_mv(y, u, v, sizes, col, row, mvs, false, FilterSet::Sixtap),
-    );
+    )?;
     say_report(
-        b", merging ",
+        rt,
+        ", merging ",
         predict_merging(y, u, v, sizes, col, row, mvs, false, FilterSet::Sixtap),
-    );
+    )?;
     say(
-        b", by version ",
+        rt,
+        ", by version ",
         predict_split_mv_by_version(y, u, v, sizes, col, row, mvs, 0, false),
-    );
-    text(b"\n");
+    )?;
+    text(rt, "\n")
 }
 
-fn sizes_line(sizes: Sizes, col: usize, row: usize) {
-    labelled(b"", sizes.mb_cols);
-    labelled(b" by ", sizes.mb_rows);
-    labelled(b" macroblocks, strides ", sizes.y_stride);
-    labelled(b" ", sizes.u_stride);
-    labelled(b" ", sizes.v_stride);
-    labelled(b", at ", col);
-    labelled(b" ", row);
+fn sizes_line(rt: &HostRuntime, sizes: Sizes, col: usize, row: usize) -> io::Result<()> {
+    labelled(rt, "", sizes.mb_cols)?;
+    labelled(rt, " by ", sizes.mb_rows)?;
+    labelled(rt, " macroblocks, strides ", sizes.y_stride)?;
+    labelled(rt, " ", sizes.u_stride)?;
+    labelled(rt, " ", sizes.v_stride)?;
+    labelled(rt, ", at ", col)?;
+    labelled(rt, " ", row)
 }
 
-fn all_six(y: &[u8], u: &[u8], v: &[u8], sizes: Sizes, col: usize, row: usize) {
-    sizes_line(sizes, col, row);
-    labelled(b", bytes ", y.len());
-    labelled(b" ", u.len());
-    labelled(b" ", v.len());
-    text(b":");
-    whole(y, u, v, sizes, col, row);
-    split(y, u, v, sizes, col, row);
+fn all_six(
+    rt: &HostRuntime,
+    y: &[u8],
+    u: &[u8],
+    v: &[u8],
+    sizes: Sizes,
+    col: usize,
+    row: usize,
+) -> io::Result<()> {
+    sizes_line(rt, sizes, col, row)?;
+    labelled(rt, ", bytes ", y.len())?;
+    labelled(rt, " ", u.len())?;
+    labelled(rt, " ", v.len())?;
+    text(rt, ":")?;
+    whole(rt, y, u, v, sizes, col, row)?;
+    split(rt, y, u, v, sizes, col, row)
 }
 
 // One macroblock whose chroma planes are in order.
-fn luma(y: &[u8], y_stride: usize, col: usize, row: usize) {
+fn luma(rt: &HostRuntime, y: &[u8], y_stride: usize, col: usize, row: usize) -> io::Result<()> {
     let sizes = Sizes {
         y_stride,
         u_stride: 8,
@@ -83,11 +119,17 @@ fn luma(y: &[u8], y_stride: usize, col: usize, row: usize) {
         mb_rows: 1,
     };
     let uv = [200u8; 64];
-    all_six(y, &uv, &uv, sizes, col, row);
+    all_six(rt, y, &uv, &uv, sizes, col, row)
 }
 
 // One whose luma plane is.
-fn chroma(u: &[u8], v: &[u8], u_stride: usize, v_stride: usize) {
+fn chroma(
+    rt: &HostRuntime,
+    u: &[u8],
+    v: &[u8],
+    u_stride: usize,
+    v_stride: usize,
+) -> io::Result<()> {
     let sizes = Sizes {
         y_stride: 16,
         u_stride,
@@ -96,11 +138,11 @@ fn chroma(u: &[u8], v: &[u8], u_stride: usize, v_stride: usize) {
         mb_rows: 1,
     };
     let y = [200u8; 256];
-    all_six(&y, u, v, sizes, 0, 0);
+    all_six(rt, &y, u, v, sizes, 0, 0)
 }
 
 // Empty planes, so that a picture that passes the first two tests gets 3.
-fn size(mb_cols: usize, mb_rows: usize) {
+fn size(rt: &HostRuntime, mb_cols: usize, mb_rows: usize) -> io::Result<()> {
     let sizes = Sizes {
         y_stride: 16384,
         u_stride: 8192,
@@ -108,56 +150,56 @@ fn size(mb_cols: usize, mb_rows: usize) {
         mb_cols,
         mb_rows,
     };
-    all_six(b"", b"", b"", sizes, 0, 0);
+    all_six(rt, b"", b"", b"", sizes, 0, 0)
 }
 
-fn bytes() {
-    luma(&[200u8; 316], 20, 0, 0);
-    luma(&[200u8; 315], 20, 0, 0);
-    chroma(&[200u8; 78], &[200u8; 78], 10, 10);
-    chroma(&[200u8; 77], &[200u8; 78], 10, 10);
-    chroma(&[200u8; 78], &[200u8; 77], 10, 10);
-    chroma(&[200u8; 64], &[200u8; 78], 8, 10);
-    chroma(&[200u8; 63], &[200u8; 78], 8, 10);
-    chroma(&[200u8; 64], &[200u8; 77], 8, 10);
-    chroma(&[200u8; 78], &[200u8; 64], 10, 8);
-    chroma(&[200u8; 77], &[200u8; 64], 10, 8);
-    chroma(&[200u8; 78], &[200u8; 63], 10, 8);
+fn bytes(rt: &HostRuntime) -> io::Result<()> {
+    luma(rt, &[200u8; 316], 20, 0, 0)?;
+    luma(rt, &[200u8; 315], 20, 0, 0)?;
+    chroma(rt, &[200u8; 78], &[200u8; 78], 10, 10)?;
+    chroma(rt, &[200u8; 77], &[200u8; 78], 10, 10)?;
+    chroma(rt, &[200u8; 78], &[200u8; 77], 10, 10)?;
+    chroma(rt, &[200u8; 64], &[200u8; 78], 8, 10)?;
+    chroma(rt, &[200u8; 63], &[200u8; 78], 8, 10)?;
+    chroma(rt, &[200u8; 64], &[200u8; 77], 8, 10)?;
+    chroma(rt, &[200u8; 78], &[200u8; 64], 10, 8)?;
+    chroma(rt, &[200u8; 77], &[200u8; 64], 10, 8)?;
+    chroma(rt, &[200u8; 78], &[200u8; 63], 10, 8)
 }
 
-fn counts() {
-    size(1024, 1);
-    size(1025, 1);
-    size(1, 1024);
-    size(1, 1025);
-    size(0, 1);
-    size(1, 0);
-    size(18446744073709551615, 18446744073709551615);
+fn counts(rt: &HostRuntime) -> io::Result<()> {
+    size(rt, 1024, 1)?;
+    size(rt, 1025, 1)?;
+    size(rt, 1, 1024)?;
+    size(rt, 1, 1025)?;
+    size(rt, 0, 1)?;
+    size(rt, 1, 0)?;
+    size(rt, 18446744073709551615, 18446744073709551615)
 }
 
-fn strides() {
-    luma(&[200u8; 16], 32768, 0, 0);
-    luma(&[200u8; 16], 32769, 0, 0);
-    luma(&[200u8; 316], 15, 0, 0);
-    chroma(&[200u8; 8], &[200u8; 8], 32768, 32768);
-    chroma(&[200u8; 8], &[200u8; 8], 32769, 32769);
-    chroma(&[200u8; 78], &[200u8; 78], 7, 7);
-    chroma(&[200u8; 78], &[200u8; 78], 8, 7);
-    chroma(&[200u8; 78], &[200u8; 78], 7, 8);
-    chroma(&[200u8; 78], &[200u8; 78], 8, 32769);
-    chroma(&[200u8; 78], &[200u8; 78], 32769, 8);
+fn strides(rt: &HostRuntime) -> io::Result<()> {
+    luma(rt, &[200u8; 16], 32768, 0, 0)?;
+    luma(rt, &[200u8; 16], 32769, 0, 0)?;
+    luma(rt, &[200u8; 316], 15, 0, 0)?;
+    chroma(rt, &[200u8; 8], &[200u8; 8], 32768, 32768)?;
+    chroma(rt, &[200u8; 8], &[200u8; 8], 32769, 32769)?;
+    chroma(rt, &[200u8; 78], &[200u8; 78], 7, 7)?;
+    chroma(rt, &[200u8; 78], &[200u8; 78], 8, 7)?;
+    chroma(rt, &[200u8; 78], &[200u8; 78], 7, 8)?;
+    chroma(rt, &[200u8; 78], &[200u8; 78], 8, 32769)?;
+    chroma(rt, &[200u8; 78], &[200u8; 78], 32769, 8)
 }
 
-fn places() {
+fn places(rt: &HostRuntime) -> io::Result<()> {
     let y = [200u8; 256];
-    luma(&y, 16, 1, 0);
-    luma(&y, 16, 0, 1);
-    luma(&y, 16, 18446744073709551615, 0);
-    luma(&y[..255], 16, 1, 0);
+    luma(rt, &y, 16, 1, 0)?;
+    luma(rt, &y, 16, 0, 1)?;
+    luma(rt, &y, 16, 18446744073709551615, 0)?;
+    luma(rt, &y[..255], 16, 1, 0)
 }
 
 // A fault of one plane comes before a higher one of another.
-fn two_planes() {
+fn two_planes(rt: &HostRuntime) -> io::Result<()> {
     let sizes = Sizes {
         y_stride: 16,
         u_stride: 7,
@@ -165,10 +207,16 @@ fn two_planes() {
         mb_cols: 1,
         mb_rows: 1,
     };
-    all_six(b"", b"", b"", sizes, 1, 1);
+    all_six(rt, b"", b"", b"", sizes, 1, 1)
 }
 
-fn whole_pixel(what: &[u8], row: i16, col: i16, full_pixel: bool) {
+fn whole_pixel(
+    rt: &HostRuntime,
+    what: &str,
+    row: i16,
+    col: i16,
+    full_pixel: bool,
+) -> io::Result<()> {
     let sizes = Sizes {
         y_stride: 16,
         u_stride: 8,
@@ -179,26 +227,33 @@ fn whole_pixel(what: &[u8], row: i16, col: i16, full_pixel: bool) {
     let y = [200u8; 256];
     let uv = [200u8; 64];
     say_report(
+        rt,
         what,
         predict_inter_mb_whole_pixel(&y, &uv, &uv, sizes, 0, 0, Mv { row, col }, full_pixel),
-    );
-    text(b"\n");
+    )?;
+    text(rt, "\n")
 }
 
-fn whole_pixels() {
-    whole_pixel(b"whole pixel, vector (0, 4): ", 0, 4, false);
-    whole_pixel(b"whole pixel, vector (0, 4), full-pixel: ", 0, 4, true);
-    whole_pixel(b"whole pixel, vector (4, 0): ", 4, 0, false);
-    whole_pixel(b"whole pixel, vector (0, 2): ", 0, 2, false);
-    whole_pixel(b"whole pixel, vector (0, 8): ", 0, 8, false);
-    whole_pixel(b"whole pixel, vector (-1, -1), full-pixel: ", -1, -1, true);
+fn whole_pixels(rt: &HostRuntime) -> io::Result<()> {
+    whole_pixel(rt, "whole pixel, vector (0, 4): ", 0, 4, false)?;
+    whole_pixel(rt, "whole pixel, vector (0, 4), full-pixel: ", 0, 4, true)?;
+    whole_pixel(rt, "whole pixel, vector (4, 0): ", 4, 0, false)?;
+    whole_pixel(rt, "whole pixel, vector (0, 2): ", 0, 2, false)?;
+    whole_pixel(rt, "whole pixel, vector (0, 8): ", 0, 8, false)?;
+    whole_pixel(
+        rt,
+        "whole pixel, vector (-1, -1), full-pixel: ",
+        -1,
+        -1,
+        true,
+    )
 }
 
-pub fn all() {
-    bytes();
-    counts();
-    strides();
-    places();
-    two_planes();
-    whole_pixels();
+pub fn all(rt: &HostRuntime) -> io::Result<()> {
+    bytes(rt)?;
+    counts(rt)?;
+    strides(rt)?;
+    places(rt)?;
+    two_planes(rt)?;
+    whole_pixels(rt)
 }

@@ -13,12 +13,14 @@ mod planes;
 mod say;
 mod vectors;
 
-fn main() {
-    macroblocks::all();
-    by_version::all();
-    halos::all();
-    planes::all();
-    into::all();
-    fractions::all();
-    vectors::all();
+use std::io;
+
+fn main(rt: HostRuntime) -> io::Result<()> {
+    macroblocks::all(&rt)?;
+    by_version::all(&rt)?;
+    halos::all(&rt)?;
+    planes::all(&rt)?;
+    into::all(&rt)?;
+    fractions::all(&rt)?;
+    vectors::all(&rt)
 }

@@ -1,18 +1,18 @@
 // What a line is put together from.
-use libc::STDOUT_FILENO;
+use std::io;
 
-pub fn text(t: &[u8]) {
-    io::write_all(STDOUT_FILENO, t);
+pub fn text(rt: &HostRuntime, t: &str) -> io::Result<()> {
+    print!(rt; "{t}")
 }
 
-fn count(n: usize) {
-    io::print_decimal(STDOUT_FILENO, n as u64);
+fn count(rt: &HostRuntime, n: usize) -> io::Result<()> {
+    print!(rt; "{n}")
 }
 
 // A number with what stands before it.
-pub fn labelled(label: &[u8], n: usize) {
-    text(label);
-    count(n);
+pub fn labelled(rt: &HostRuntime, label: &str, n: usize) -> io::Result<()> {
+    text(rt, label)?;
+    count(rt, n)
 }
 
 // How many bytes are not 0.
@@ -29,22 +29,22 @@ pub fn not_zero(s: &[u8]) -> usize {
 }
 
 // What a call gave, such as ` whole 3/0`.
-pub fn outcome(what: &[u8], number: u32, samples: usize) {
-    labelled(what, number as usize);
-    labelled(b"/", samples);
+pub fn outcome(rt: &HostRuntime, what: &str, number: u32, samples: usize) -> io::Result<()> {
+    labelled(rt, what, number as usize)?;
+    labelled(rt, "/", samples)
 }
 
-fn next(n: u8) {
-    text(b" ");
-    count(n as usize);
+fn next(rt: &HostRuntime, n: u8) -> io::Result<()> {
+    text(rt, " ")?;
+    count(rt, n as usize)
 }
 
 // Every byte, to the end of the line.
-pub fn every(s: &[u8]) {
+pub fn every(rt: &HostRuntime, s: &[u8]) -> io::Result<()> {
     let mut i: usize = 0;
     while i < s.len() {
-        next(s[i]);
+        next(rt, s[i])?;
         i += 1;
     }
-    text(b"\n");
+    text(rt, "\n")
 }

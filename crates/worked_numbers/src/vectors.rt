@@ -1,24 +1,26 @@
 // The quarter of each luma block, and of numbers far above 15.
 use crate::say::{labelled, text};
 use motion_vectors::chroma_idx_for_luma_subblock;
+use std::io;
 
-fn quarter(b: usize) {
-    labelled(b"quarter of block ", b);
-    labelled(b": ", chroma_idx_for_luma_subblock(b));
-    text(b"\n");
+fn quarter(rt: &HostRuntime, b: usize) -> io::Result<()> {
+    labelled(rt, "quarter of block ", b)?;
+    labelled(rt, ": ", chroma_idx_for_luma_subblock(b))?;
+    text(rt, "\n")
 }
 
-fn quarters() {
+fn quarters(rt: &HostRuntime) -> io::Result<()> {
     let mut b: usize = 0;
     while b < 16 {
-        quarter(b);
+        quarter(rt, b)?;
         b += 1;
     }
+    Ok(())
 }
 
-pub fn all() {
-    quarters();
-    quarter(18);
-    quarter(18446744073709551600);
-    quarter(18446744073709551615);
+pub fn all(rt: &HostRuntime) -> io::Result<()> {
+    quarters(rt)?;
+    quarter(rt, 18)?;
+    quarter(rt, 18446744073709551600)?;
+    quarter(rt, 18446744073709551615)
 }
