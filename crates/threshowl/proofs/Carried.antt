@@ -3,7 +3,7 @@ use mathlib.Core.Path.{◌≡◌, refl, sym, ap, ◌∙◌}
 use mathlib.Core.Logic.{◌↔◌}
 use mathlib.Core.Bool.{Bool, true, false, cond}
 use mathlib.Core.List.{List, ◌++◌}
-use Prim.Native.Nat.{ℕ, ◌+◌, ◌-◌, ◌*◌, ◌<◌, ◌≤◌}
+use Prim.Native.Nat.{ℕ, ◌+◌, ◌*◌, ◌<◌, ◌≤◌}
 use native.Mathlib.Omega.{arith}
 use lib.ListN.{length, get_or, replicate, get_or-append}
 use lib.Seq.{get_or-append-add}
@@ -18,7 +18,6 @@ use Rattle.rfc6386.specs.Macroblock.{Reference, plane_y, plane_u, refusal, whole
 use Rattle.rfc6386.specs.Version.{reserved_version, whole_by_version, split_by_version}
 use Rattle.rfc6386.specs.Telling.{sixteen, telling_sample}
 use Rattle.rfc6386.proofs.Carried.{Place, lent_at, OfTypes, telling_place, telling_typed, results_agree, results-differ}
-use Rattle.rfc6386.proofs.Laws.Vectors.{vector}
 use Rattle.rfc6386.proofs.Laws.Raster.{length-tab, length-raster}
 use Rattle.rfc6386.proofs.Laws.Refusals.{done}
 use Rattle.rfc6386.proofs.Laws.Blocks.{length-block}

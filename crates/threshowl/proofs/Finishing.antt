@@ -1,5 +1,5 @@
 -- Laws for the calls that finish a macroblock. Assumes nothing.
-use mathlib.Core.Path.{◌≡◌, refl, sym, ap, ◌∙◌, subst}
+use mathlib.Core.Path.{◌≡◌, refl, sym, ap, ap₂, ◌∙◌, subst}
 use mathlib.Core.Bool.{Bool, true, false, cond, ◌&&◌}
 use mathlib.Core.List.{List, ◌++◌, append_assoc}
 use Prim.Native.Nat.{ℕ, zero, suc, ◌+◌, ◌*◌}
@@ -14,7 +14,8 @@ use Rattle.rfc6386.specs.Vector.{Lowering, luma_vector, chroma_vector, is_whole}
 use Rattle.rfc6386.specs.Picture.{image}
 use Rattle.rfc6386.specs.Raster.{tab}
 use Rattle.rfc6386.specs.Refusal.{or_else, if_done, room_refusal}
-use Rattle.rfc6386.specs.Macroblock.{Reference, plane_y, plane_u, plane_v, refusal, whole_samples, pixel_samples, no_samples, answered, whole, fraction_left}
+use Rattle.rfc6386.specs.Macroblock.{Reference, plane_y, plane_u, plane_v, refusal, whole_samples, pixel_samples, no_samples, answered, whole, split, fraction_left}
+use Rattle.rfc6386.specs.Report.{whole_report, split_report}
 use Rattle.rfc6386.proofs.Laws.Raster.{is-tab}
 use Rattle.rfc6386.proofs.Laws.Refusals.{done, refused, or_else-zero}
 use Rattle.rfc6386.proofs.Laws.Halos.{whole-block}
@@ -22,14 +23,15 @@ use Rattle.residue.specs.Coefficients.{finished_plane, finished}
 use Rattle.residue.specs.Reconstruction.{finished_unless}
 use Rattle.residue.specs.Inner.{piece}
 use Rattle.quantisers.specs.Inner.{Offered}
-use Rattle.quantisers.proofs.Keeping.{unless_alike}
-use Rattle.outputs.specs.Output.{flat, call_number, Left}
+use Rattle.quantisers.specs.Keeping.{unless_alike}
+use Rattle.outputs.specs.Output.{flat, call_number, Left, Told}
 use Rattle.threshowl.specs.Finished.{late_number, Finishes, pixels_at, quantiser, finished_bytes}
-use Rattle.outputs.specs.Laws.{if-done, Counted, has_room, zeros}
+use Rattle.outputs.specs.Laws.{if-done, left_as, Counted, has_room, zeros}
 use Rattle.rfc6386.specs.declared.Mv.{Mv}
 use Rattle.rfc6386.specs.declared.FilterSet.{FilterSet}
 use Rattle.rfc6386.specs.declared.ReconstructedMb.{ReconstructedMb}
 use Rattle.rfc6386.specs.declared.Prediction.{Prediction}
+use Rattle.outputs.specs.declared.into.Ended.{Ended}
 
 -- ---- the samples of a macroblock
 -- part of a list that is two
@@ -108,6 +110,23 @@ module _ (p : Prediction) (codes late : ℕ) (skip : Bool) (c : List ℤ) (out :
               ∙ bytes-finished skip c p.samples m
               ∙ sym (done (flat (finished_unless skip c p.samples)) out (sym numbered ∙ z));
         }
+
+-- ---- what a prediction leaves, at what its table, its vectors and its codes are, a number that comes after the room among them
+codes_are : (room : ℕ) {codes own own' late late' : ℕ} → codes ≡ or_else own (or_else (room_refusal room) late) → own ≡ own' → late ≡ late'
+    → codes ≡ or_else own' (or_else (room_refusal room) late')
+codes_are room f g h = f ∙ ap₂ (λ (k l : ℕ). or_else k (or_else (room_refusal room) l)) g h
+
+module _ (low : Lowering) (ref : Reference) (col row : ℕ) (out : List ℕ) {set set' : FilterSet} {codes own own' late late' : ℕ} {out' : List ℕ} {ended : Ended}
+    (e : set ≡ set') (f : codes ≡ or_else own (or_else (room_refusal (length out)) late)) (g : own ≡ own') (h : late ≡ late') where
+  pub whole_left : {v v' : Mv} → v ≡ v' → Told (whole_report set low ref col row v) codes out ended out'
+      → Left (whole set' low ref col row v') (or_else own' (or_else (room_refusal (length out)) late')) out ended.number out'
+  unfolding whole_report
+  whole_left k t = left_as (ap₂ (λ (s : FilterSet) (m : Mv). whole s low ref col row m) e k) (codes_are (length out) f g h) t.leaves
+
+  pub split_left : {vs vs' : List Mv} → vs ≡ vs' → Told (split_report set low ref col row vs) codes out ended out'
+      → Left (split set' low ref col row vs') (or_else own' (or_else (room_refusal (length out)) late')) out ended.number out'
+  unfolding split_report
+  split_left k t = left_as (ap₂ (λ (s : FilterSet) (m : List Mv). split s low ref col row m) e k) (codes_are (length out) f g h) t.leaves
 
 -- ---- said otherwise
 pub finishes_as : {p q : Prediction} {codes codes' late late' : ℕ} {skip : Bool} {c : List ℤ} {out : List ℕ} {r : ℕ} {out' : List ℕ} → p ≡ q → codes ≡ codes' → late ≡ late'

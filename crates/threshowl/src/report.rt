@@ -39,7 +39,7 @@ fn kind_of(kind: u8, mvs: [Mv; 16]) -> u8
 
 // Says it through the pointers that C lends.
 fn tell(ended: Ended, fetched: &mut u64, low: &mut u64, high: &mut u64) -> u32
-    ensures { ended ≡ record { number = result; fetched = fetched.new; clips = record { low = low.exit.now; high = high.new } } }
+    ensures { ended ≡ record { number = result; fetched = fetched.new; clips = record { low = low.new; high = high.new } } }
 {
     *fetched = ended.fetched;
     *low = ended.clips.low as u64;
