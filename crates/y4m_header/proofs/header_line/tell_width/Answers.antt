@@ -1,5 +1,5 @@
 -- What `y4m_header::header_line::tell_width` tells: a second width or one of 0 breaks the rules.
-use Rattle.std.proofs.Common.{sym, ◌∙◌}
+use Rattle.std.proofs.Common.{◌≡◌, sym, ◌∙◌, arith}
 use Rattle.y4m_header.proofs.Laws.{width_twice, width_none, width-told}
 use Rattle.y4m_header.proofs.header_line.tell_width.Goals as goal
 
@@ -7,7 +7,7 @@ pub returns-then-told-ne0 : goal.returns-then-told-ne0
 returns-then-told-ne0 c = c.break_rule.ensures ∙ sym (width_twice _ _ c.if-told-ne0.true)
 
 pub returns-then-n-eq0 : goal.returns-then-n-eq0
-returns-then-n-eq0 c = c.break_rule-then-n-eq0.ensures ∙ sym (width_none _ _ c.if-told-ne0.false c.if-n-eq0.true)
+returns-then-n-eq0 c = c.break_rule-then-n-eq0.ensures ∙ sym (width_none c.args.n c.args.told (omega arith) (omega arith))
 
 pub returns : goal.returns
-returns c = sym (width-told _ _ c.if-told-ne0.false c.if-n-eq0.false)
+returns c = sym (width-told c.args.n c.args.told (omega arith) (omega arith))
