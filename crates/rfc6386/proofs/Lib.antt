@@ -1,4 +1,4 @@
--- What is proved of them: laws, the numbers worked by hand, when sixteen equal vectors are one and that the functions keep it, that equal
+-- What is proved of the definitions: laws, the numbers worked by hand, when sixteen equal vectors are one and that the functions keep it, that equal
 -- strides of U and V read as one did, where the two full-pixel modes agree, what a prediction may see, what it makes of a mirrored picture, how
 -- many samples are clipped, and that contracts leave no choice
 pub mod Laws

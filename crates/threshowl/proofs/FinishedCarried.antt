@@ -14,8 +14,8 @@ use Rattle.rfc6386.proofs.Carried.{Place, lent_at}
 use Rattle.rfc6386.proofs.Laws.Refusals.{done}
 use Rattle.residue.specs.Coefficients.{seeded, whole_refusal, split_refusal}
 use Rattle.residue.specs.Reconstruction.{finished_unless}
-use Rattle.residue.specs.Domain.{zero_late}
-use Rattle.residue.specs.Merging.{Alike, alike-seeded, split_count}
+use Rattle.residue.proofs.Refused.{zero_late}
+use Rattle.residue.proofs.Merging.{Alike, alike-seeded, split_count}
 use Rattle.rfc6386.specs.Refusal.{code_refusal}
 use Rattle.vector_bytes.specs.Bytes.{vectors_of}
 use Rattle.outputs.specs.Output.{flat, call_number}

@@ -23,7 +23,7 @@ use Rattle.residue.specs.Coefficients.{finished_plane, finished}
 use Rattle.residue.specs.Reconstruction.{finished_unless}
 use Rattle.residue.specs.Inner.{piece}
 use Rattle.quantisers.specs.Inner.{Offered}
-use Rattle.quantisers.specs.Keeping.{unless_alike}
+use Rattle.quantisers.proofs.Keeping.{unless_alike}
 use Rattle.outputs.specs.Output.{flat, call_number, Left, Told}
 use Rattle.threshowl.specs.Finished.{late_number, Finishes, pixels_at, quantiser, finished_bytes}
 use Rattle.outputs.specs.Laws.{if-done, left_as, Counted, has_room, zeros}

@@ -17,12 +17,12 @@ fn both(
     let mv = Mv { row: 0, col: 0 };
     say(
         rt,
-        " whole ",
+        b" whole ",
         predict_inter_mb_by_version(y, uv, uv, sizes, at, at, mv, version, standard),
     )?;
     say(
         rt,
-        ", split ",
+        b", split ",
         predict_split_mv_by_version(y, uv, uv, sizes, at, at, [mv; 16], version, standard),
     )
 }
@@ -42,14 +42,14 @@ fn line(rt: &HostRuntime, version: u8) -> io::Result<()> {
         mb_cols: 0,
         mb_rows: 0,
     };
-    labelled(rt, "version ", version as usize)?;
-    text(rt, ":")?;
+    labelled(rt, b"version ", version as usize)?;
+    text(rt, b":")?;
     both(rt, &[200u8; 256], &[200u8; 64], good, 0, version, false)?;
-    text(rt, "; by the standard:")?;
+    text(rt, b"; by the standard:")?;
     both(rt, &[200u8; 256], &[200u8; 64], good, 0, version, true)?;
-    text(rt, "; nothing in order:")?;
+    text(rt, b"; nothing in order:")?;
     both(rt, b"", b"", bad, 1, version, true)?;
-    text(rt, "\n")
+    text(rt, b"\n")
 }
 
 pub fn all(rt: &HostRuntime) -> io::Result<()> {

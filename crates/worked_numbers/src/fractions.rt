@@ -7,25 +7,25 @@ use std::io;
 // The pair is the number and the sample.
 fn step(rt: &HostRuntime, k: usize) -> io::Result<()> {
     let made = interp(FilterSet::Sixtap, k, &[200u8; 6]);
-    labelled(rt, "interp, fraction ", k)?;
-    outcome(rt, ": ", made.number, made.sample as usize)?;
-    text(rt, "\n")
+    labelled(rt, b"interp, fraction ", k)?;
+    outcome(rt, b": ", made.number, made.sample as usize)?;
+    text(rt, b"\n")
 }
 
 fn squares(rt: &HostRuntime, mx: usize, my: usize) -> io::Result<()> {
-    labelled(rt, "filters, fractions ", mx)?;
-    labelled(rt, " ", my)?;
-    text(rt, ":")?;
+    labelled(rt, b"filters, fractions ", mx)?;
+    labelled(rt, b" ", my)?;
+    text(rt, b":")?;
     let small = sixtap_2d(&[200u8; 81], mx, my, FilterSet::Bilinear);
     let block = small.samples;
-    outcome(rt, " block ", small.number, not_zero(&block))?;
+    outcome(rt, b" block ", small.number, not_zero(&block))?;
     let middle = sixtap_mb_chroma(&[200u8; 169], mx, my, FilterSet::Bilinear);
     let chroma = middle.samples;
-    outcome(rt, ", chroma ", middle.number, not_zero(&chroma))?;
+    outcome(rt, b", chroma ", middle.number, not_zero(&chroma))?;
     let large = sixtap_mb_luma(&[200u8; 441], mx, my, FilterSet::Bilinear);
     let luma = large.samples;
-    outcome(rt, ", luma ", large.number, not_zero(&luma))?;
-    text(rt, "\n")
+    outcome(rt, b", luma ", large.number, not_zero(&luma))?;
+    text(rt, b"\n")
 }
 
 pub fn all(rt: &HostRuntime) -> io::Result<()> {

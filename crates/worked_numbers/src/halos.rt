@@ -41,7 +41,7 @@ fn edge(halo: &[u8; 441], across: bool) -> [u8; 21] {
     out
 }
 
-fn fetched(rt: &HostRuntime, what: &str, side: usize, across: bool) -> io::Result<()> {
+fn fetched(rt: &HostRuntime, what: &[u8], side: usize, across: bool) -> io::Result<()> {
     let plane = numbered(side, across);
     let halo = fetch_luma_mb_halo(&plane, side, side, side, 2, 2, Mv { row: 0, col: 0 });
     let samples = halo.samples;
@@ -51,8 +51,8 @@ fn fetched(rt: &HostRuntime, what: &str, side: usize, across: bool) -> io::Resul
 }
 
 pub fn all(rt: &HostRuntime) -> io::Result<()> {
-    fetched(rt, "luma halo at column 2, width 21:", 21, true)?;
-    fetched(rt, "luma halo at column 2, width 20:", 20, true)?;
-    fetched(rt, "luma halo at row 2, height 21:", 21, false)?;
-    fetched(rt, "luma halo at row 2, height 20:", 20, false)
+    fetched(rt, b"luma halo at column 2, width 21:", 21, true)?;
+    fetched(rt, b"luma halo at column 2, width 20:", 20, true)?;
+    fetched(rt, b"luma halo at row 2, height 21:", 21, false)?;
+    fetched(rt, b"luma halo at row 2, height 20:", 20, false)
 }

@@ -17,13 +17,13 @@ fn block(
     let mv = Mv { row: 0, col: 0 };
     let set = FilterSet::Sixtap;
     let number = filter_block_4x4_into(dst, stride, x, y, &plane, 4, 4, 4, blk_x, 0, mv, set);
-    labelled(rt, "block at column ", blk_x)?;
-    labelled(rt, " into ", dst.len())?;
-    labelled(rt, " bytes, stride ", stride)?;
-    labelled(rt, ", at ", x)?;
-    labelled(rt, " ", y)?;
-    outcome(rt, ": ", number, not_zero(dst))?;
-    text(rt, "\n")
+    labelled(rt, b"block at column ", blk_x)?;
+    labelled(rt, b" into ", dst.len())?;
+    labelled(rt, b" bytes, stride ", stride)?;
+    labelled(rt, b", at ", x)?;
+    labelled(rt, b" ", y)?;
+    outcome(rt, b": ", number, not_zero(dst))?;
+    text(rt, b"\n")
 }
 
 fn small(rt: &HostRuntime) -> io::Result<()> {

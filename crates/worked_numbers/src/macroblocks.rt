@@ -8,7 +8,7 @@ use std::io;
 use std::num::wrapping_add_usize;
 use versions::{predict_inter_mb_by_version, predict_split_mv_by_version};
 
-pub fn say(rt: &HostRuntime, what: &str, p: Prediction) -> io::Result<()> {
+pub fn say(rt: &HostRuntime, what: &[u8], p: Prediction) -> io::Result<()> {
     let samples = p.samples;
     let y = samples.y;
     let u = samples.u;
@@ -22,7 +22,7 @@ pub fn say(rt: &HostRuntime, what: &str, p: Prediction) -> io::Result<()> {
     )
 }
 
-fn say_report(rt: &HostRuntime, what: &str, report: Report) -> io::Result<()> {
+fn say_report(rt: &HostRuntime, what: &[u8], report: Report) -> io::Result<()> {
     say(rt, what, report.prediction)
 }
 
@@ -38,17 +38,17 @@ fn whole(
     let mv = Mv { row: 0, col: 0 };
     say_report(
         rt,
-        " whole ",
+        b" whole ",
         predict_inter_mb(y, u, v, sizes, col, row, mv, false, FilterSet::Sixtap),
     )?;
     say_report(
         rt,
-        ", whole pixel ",
+        b", whole pixel ",
         predict_inter_mb_whole_pixel(y, u, v, sizes, col, row, mv, false),
     )?;
     say(
         rt,
-        ", by version ",
+        b", by version ",
         predict_inter_mb_by_version(y, u, v, sizes, col, row, mv, 0, false),
     )
 }
@@ -65,30 +65,30 @@ fn split(
     let mvs = [Mv { row: 0, col: 0 }; 16];
     say_report(
         rt,
-        ", split ",
+        b", split ",
         predict_split_mv(y, u, v, sizes, col, row, mvs, false, FilterSet::Sixtap),
     )?;
     say_report(
         rt,
-        ", merging ",
+        b", merging ",
         predict_merging(y, u, v, sizes, col, row, mvs, false, FilterSet::Sixtap),
     )?;
     say(
         rt,
-        ", by version ",
+        b", by version ",
         predict_split_mv_by_version(y, u, v, sizes, col, row, mvs, 0, false),
     )?;
-    text(rt, "\n")
+    text(rt, b"\n")
 }
 
 fn sizes_line(rt: &HostRuntime, sizes: Sizes, col: usize, row: usize) -> io::Result<()> {
-    labelled(rt, "", sizes.mb_cols)?;
-    labelled(rt, " by ", sizes.mb_rows)?;
-    labelled(rt, " macroblocks, strides ", sizes.y_stride)?;
-    labelled(rt, " ", sizes.u_stride)?;
-    labelled(rt, " ", sizes.v_stride)?;
-    labelled(rt, ", at ", col)?;
-    labelled(rt, " ", row)
+    labelled(rt, b"", sizes.mb_cols)?;
+    labelled(rt, b" by ", sizes.mb_rows)?;
+    labelled(rt, b" macroblocks, strides ", sizes.y_stride)?;
+    labelled(rt, b" ", sizes.u_stride)?;
+    labelled(rt, b" ", sizes.v_stride)?;
+    labelled(rt, b", at ", col)?;
+    labelled(rt, b" ", row)
 }
 
 fn all_six(
@@ -101,10 +101,10 @@ fn all_six(
     row: usize,
 ) -> io::Result<()> {
     sizes_line(rt, sizes, col, row)?;
-    labelled(rt, ", bytes ", y.len())?;
-    labelled(rt, " ", u.len())?;
-    labelled(rt, " ", v.len())?;
-    text(rt, ":")?;
+    labelled(rt, b", bytes ", y.len())?;
+    labelled(rt, b" ", u.len())?;
+    labelled(rt, b" ", v.len())?;
+    text(rt, b":")?;
     whole(rt, y, u, v, sizes, col, row)?;
     split(rt, y, u, v, sizes, col, row)
 }
@@ -212,7 +212,7 @@ fn two_planes(rt: &HostRuntime) -> io::Result<()> {
 
 fn whole_pixel(
     rt: &HostRuntime,
-    what: &str,
+    what: &[u8],
     row: i16,
     col: i16,
     full_pixel: bool,
@@ -231,18 +231,18 @@ fn whole_pixel(
         what,
         predict_inter_mb_whole_pixel(&y, &uv, &uv, sizes, 0, 0, Mv { row, col }, full_pixel),
     )?;
-    text(rt, "\n")
+    text(rt, b"\n")
 }
 
 fn whole_pixels(rt: &HostRuntime) -> io::Result<()> {
-    whole_pixel(rt, "whole pixel, vector (0, 4): ", 0, 4, false)?;
-    whole_pixel(rt, "whole pixel, vector (0, 4), full-pixel: ", 0, 4, true)?;
-    whole_pixel(rt, "whole pixel, vector (4, 0): ", 4, 0, false)?;
-    whole_pixel(rt, "whole pixel, vector (0, 2): ", 0, 2, false)?;
-    whole_pixel(rt, "whole pixel, vector (0, 8): ", 0, 8, false)?;
+    whole_pixel(rt, b"whole pixel, vector (0, 4): ", 0, 4, false)?;
+    whole_pixel(rt, b"whole pixel, vector (0, 4), full-pixel: ", 0, 4, true)?;
+    whole_pixel(rt, b"whole pixel, vector (4, 0): ", 4, 0, false)?;
+    whole_pixel(rt, b"whole pixel, vector (0, 2): ", 0, 2, false)?;
+    whole_pixel(rt, b"whole pixel, vector (0, 8): ", 0, 8, false)?;
     whole_pixel(
         rt,
-        "whole pixel, vector (-1, -1), full-pixel: ",
+        b"whole pixel, vector (-1, -1), full-pixel: ",
         -1,
         -1,
         true,

@@ -19,13 +19,13 @@ fn blocks(
     let mv = Mv { row: 0, col: 0 };
     let block = fetch_block_whole_pixel(plane, stride, w, h, x, y, mv);
     let samples = block.samples;
-    outcome(rt, " block ", block.number, not_zero(&samples))?;
+    outcome(rt, b" block ", block.number, not_zero(&samples))?;
     let halo = fetch_block_halo(plane, stride, w, h, x, y, mv);
     let around = halo.samples;
-    outcome(rt, ", its halo ", halo.number, not_zero(&around))?;
+    outcome(rt, b", its halo ", halo.number, not_zero(&around))?;
     let filtered = filter_block_4x4(plane, stride, w, h, x, y, mv, FilterSet::Sixtap);
     let made = filtered.samples;
-    outcome(rt, ", filtered ", filtered.number, not_zero(&made))
+    outcome(rt, b", filtered ", filtered.number, not_zero(&made))
 }
 
 fn chroma(
@@ -40,10 +40,10 @@ fn chroma(
     let mv = Mv { row: 0, col: 0 };
     let block = fetch_chroma_mb_whole_pixel(plane, stride, w, h, x, y, mv);
     let samples = block.samples;
-    outcome(rt, ", chroma ", block.number, not_zero(&samples))?;
+    outcome(rt, b", chroma ", block.number, not_zero(&samples))?;
     let halo = fetch_chroma_mb_halo(plane, stride, w, h, x, y, mv);
     let around = halo.samples;
-    outcome(rt, ", its halo ", halo.number, not_zero(&around))
+    outcome(rt, b", its halo ", halo.number, not_zero(&around))
 }
 
 fn luma(
@@ -58,11 +58,11 @@ fn luma(
     let mv = Mv { row: 0, col: 0 };
     let block = fetch_luma_mb_whole_pixel(plane, stride, w, h, x, y, mv);
     let samples = block.samples;
-    outcome(rt, ", luma ", block.number, not_zero(&samples))?;
+    outcome(rt, b", luma ", block.number, not_zero(&samples))?;
     let halo = fetch_luma_mb_halo(plane, stride, w, h, x, y, mv);
     let around = halo.samples;
-    outcome(rt, ", its halo ", halo.number, not_zero(&around))?;
-    text(rt, "\n")
+    outcome(rt, b", its halo ", halo.number, not_zero(&around))?;
+    text(rt, b"\n")
 }
 
 fn every(
@@ -74,13 +74,13 @@ fn every(
     x: usize,
     y: usize,
 ) -> io::Result<()> {
-    labelled(rt, "", w)?;
-    labelled(rt, " by ", h)?;
-    labelled(rt, " samples, stride ", stride)?;
-    labelled(rt, ", at ", x)?;
-    labelled(rt, " ", y)?;
-    labelled(rt, ", bytes ", plane.len())?;
-    text(rt, ":")?;
+    labelled(rt, b"", w)?;
+    labelled(rt, b" by ", h)?;
+    labelled(rt, b" samples, stride ", stride)?;
+    labelled(rt, b", at ", x)?;
+    labelled(rt, b" ", y)?;
+    labelled(rt, b", bytes ", plane.len())?;
+    text(rt, b":")?;
     blocks(rt, plane, stride, w, h, x, y)?;
     chroma(rt, plane, stride, w, h, x, y)?;
     luma(rt, plane, stride, w, h, x, y)

@@ -1,8 +1,8 @@
 // What a line is put together from.
-use std::io;
+use std::io::{self, Write};
 
-pub fn text(rt: &HostRuntime, t: &str) -> io::Result<()> {
-    print!(rt; "{t}")
+pub fn text(rt: &HostRuntime, t: &[u8]) -> io::Result<()> {
+    rt.stdout().write_all(t)
 }
 
 fn count(rt: &HostRuntime, n: usize) -> io::Result<()> {
@@ -10,7 +10,7 @@ fn count(rt: &HostRuntime, n: usize) -> io::Result<()> {
 }
 
 // A number with what stands before it.
-pub fn labelled(rt: &HostRuntime, label: &str, n: usize) -> io::Result<()> {
+pub fn labelled(rt: &HostRuntime, label: &[u8], n: usize) -> io::Result<()> {
     text(rt, label)?;
     count(rt, n)
 }
@@ -29,13 +29,13 @@ pub fn not_zero(s: &[u8]) -> usize {
 }
 
 // What a call gave, such as ` whole 3/0`.
-pub fn outcome(rt: &HostRuntime, what: &str, number: u32, samples: usize) -> io::Result<()> {
+pub fn outcome(rt: &HostRuntime, what: &[u8], number: u32, samples: usize) -> io::Result<()> {
     labelled(rt, what, number as usize)?;
-    labelled(rt, "/", samples)
+    labelled(rt, b"/", samples)
 }
 
 fn next(rt: &HostRuntime, n: u8) -> io::Result<()> {
-    text(rt, " ")?;
+    text(rt, b" ")?;
     count(rt, n as usize)
 }
 
@@ -46,5 +46,5 @@ pub fn every(rt: &HostRuntime, s: &[u8]) -> io::Result<()> {
         next(rt, s[i])?;
         i += 1;
     }
-    text(rt, "\n")
+    text(rt, b"\n")
 }

@@ -4,9 +4,9 @@ use motion_vectors::chroma_idx_for_luma_subblock;
 use std::io;
 
 fn quarter(rt: &HostRuntime, b: usize) -> io::Result<()> {
-    labelled(rt, "quarter of block ", b)?;
-    labelled(rt, ": ", chroma_idx_for_luma_subblock(b))?;
-    text(rt, "\n")
+    labelled(rt, b"quarter of block ", b)?;
+    labelled(rt, b": ", chroma_idx_for_luma_subblock(b))?;
+    text(rt, b"\n")
 }
 
 fn quarters(rt: &HostRuntime) -> io::Result<()> {

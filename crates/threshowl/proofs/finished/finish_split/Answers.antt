@@ -1,7 +1,7 @@
 -- `finished::finish_split` meets its contract: coefficients that are not refused are those that `finish_samples` asks for. Assumes nothing.
 use Rattle.std.proofs.Common.{sym, ap, ◌∙◌, Bool}
 use Rattle.residue.specs.Coefficients.{split_refusal}
-use Rattle.residue.specs.Domain.{split_accepted, open_low}
+use Rattle.residue.proofs.Refused.{split_accepted, open_low}
 use Rattle.threshowl.proofs.finished.finish_split.Goals as goal
 
 pub finish_samples-requires-clause-c_len : goal.finish_samples-requires-clause-c_len

@@ -3,7 +3,7 @@
 use Rattle.std.proofs.Common.{◌≡◌, sym, ap, ◌∙◌, subst, Bool, false, List, length, ℤ}
 use Rattle.residue.specs.Coefficients.{whole_refusal}
 use Rattle.residue.specs.Inner.{Open}
-use Rattle.residue.specs.Domain.{Whole, whole_accepted, open-seeded, length-seeded}
+use Rattle.residue.proofs.Refused.{Whole, whole_accepted, open-seeded, length-seeded}
 use Rattle.threshowl.proofs.finished.finish_whole.Goals as goal
 
 accepted : (c : List ℤ) {skip : Bool} → skip ≡ false → whole_refusal skip c ≡ 0 → (length c ≡ 400) × Whole c

@@ -1,5 +1,5 @@
 -- What `y4m_header::header_line::tell_width` tells: a second width or one of 0 breaks the rules.
-use Rattle.std.proofs.Common.{◌≡◌, sym, ◌∙◌, arith}
+use Rattle.std.proofs.Common.{sym, ◌∙◌, arith}
 use Rattle.y4m_header.proofs.Laws.{width_twice, width_none, width-told}
 use Rattle.y4m_header.proofs.header_line.tell_width.Goals as goal
 
