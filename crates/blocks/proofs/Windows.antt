@@ -13,7 +13,7 @@ use Rattle.rfc6386.specs.Picture.{Plane, Image, image, square, block, pixels, ha
 use Rattle.rfc6386.specs.Fetched.{square_of, pixels_of, halo_of, block_of}
 use Rattle.rfc6386.specs.Clips.{halo_clips}
 use Rattle.rfc6386.proofs.Laws.Raster.{length-raster}
-use Rattle.rfc6386.proofs.Laws.Refusals.{PlaneAccepts}
+use Rattle.rfc6386.proofs.Laws.Refusals.{PlaneAccepts, plane_accepts}
 use Rattle.rfc6386.proofs.Laws.Samples.{Bytes}
 use Rattle.rfc6386.proofs.Laws.Vectors.{fraction-under}
 use Rattle.rfc6386.proofs.Laws.Halos.{filtered-block}
@@ -27,7 +27,7 @@ use Rattle.steps.specs.Window.{window_list, window_block, sample_of, Strips}
 use Rattle.steps.proofs.Laws.Windows.{window_whole, window_block_lem}
 use Rattle.steps.specs.declared.way.Way.{Way}
 use Rattle.steps.specs.declared.rect.Window.{Window}
-use Rattle.blocks.specs.Places.{plane_at, Alike, Lies, halo_start, HaloAt}
+use Rattle.blocks.specs.Places.{plane_at, Accepted, Alike, Lies, halo_start, HaloAt}
 use Rattle.blocks.specs.Taken.{block_takes}
 use Rattle.blocks.specs.declared.place.Place.{Place}
 use Rattle.blocks.proofs.Squares.{plain_held, near_is}
@@ -57,6 +57,17 @@ module _ (n : ℕ) {bytes : List ℕ} {at : Place} {v : Mv} {i j : ℕ} (A : Pla
 
   pub near_window : window_list (n + 5) bytes (j * at.stride + i) at.stride ≡ halo n (image (plane_at bytes at)) at.x at.y v
   near_window = near_is A.fits H.across H.down
+
+-- the same from what a caller promises, and what `find` then gives
+module _ (n : ℕ) (bytes : List ℕ) {at : Place} {v : Mv} {i j : ℕ} (a : Accepted bytes at) (H : HaloAt at v (n + 5) i j) where
+  abbrev accepts : PlaneAccepts (plane_at bytes at) at.x at.y
+  accepts = plane_accepts (plane_at bytes at) at.x at.y a
+
+  pub found_held : Held (length bytes) (j * at.stride + i) at.stride (n + 5) (n + 5)
+  found_held = near_held n accepts H
+
+  pub found_window : window_list (n + 5) bytes (j * at.stride + i) at.stride ≡ halo n (image (plane_at bytes at)) at.x at.y v
+  found_window = near_window n accepts H
 
 -- what is found of U holds of V
 pub alike_near : {p q : Place} {v : Mv} {n i j : ℕ} → Alike p q → HaloAt p v n i j → HaloAt q v n i j

@@ -1,11 +1,10 @@
 -- `block::block_of_16` copies whole pixels, or filters the halo, near or far. Assumes nothing.
 use Rattle.std.proofs.Common.{sym, ◌∙◌, arith}
-use Rattle.rfc6386.proofs.Laws.Refusals.{PlaneAccepts, plane_accepts}
+use Rattle.rfc6386.proofs.Laws.Refusals.{plane_accepts}
 use Rattle.rfc6386.proofs.Laws.Blocks.{image_bytes}
 use Rattle.rfc6386.proofs.Laws.Halos.{whole-block}
-use Rattle.blocks.specs.Places.{plane_at, HaloAt}
 use Rattle.blocks.proofs.Fetches.{under_x, under_y}
-use Rattle.blocks.proofs.Windows.{way_block, near_held, near_window, far_window, takes-pixels, takes-halo, few_fetched}
+use Rattle.blocks.proofs.Windows.{way_block, found_held, found_window, far_window, takes-pixels, takes-halo, few_fetched}
 use Rattle.blocks.proofs.block.block_of_16.Goals as goal
 
 pub returns-then-whole_pixel_fraction_is_zero-clause-value : goal.returns-then-whole_pixel_fraction_is_zero-clause-value
@@ -25,39 +24,26 @@ pub find-found-requires-clause-w_bound : goal.find-found-requires-clause-w_bound
 find-found-requires-clause-w_bound c = let A = plane_accepts _ _ _ c.requires in (A.width_most, A.height_most)
 
 pub overflow_mul-from : goal.overflow_mul-from
-overflow_mul-from c =
-    let A : PlaneAccepts (plane_at c.args.plane.now c.args.at) c.args.at.x c.args.at.y = plane_accepts _ _ _ c.requires in
-    let H : HaloAt c.args.at c.args.mv 21 c.find-found.result.x c.find-found.result.y = c.find-found.ensures.halo_at c.if-found.true in
-    omega (arith, near_held 16 A H 0 (omega arith))
+overflow_mul-from c = omega (arith, found_held 16 c.args.plane.now c.requires (c.find-found.ensures.halo_at c.if-found.true) 0 (omega arith))
 
 pub overflow_add-from : goal.overflow_add-from
-overflow_add-from c =
-    let A : PlaneAccepts (plane_at c.args.plane.now c.args.at) c.args.at.x c.args.at.y = plane_accepts _ _ _ c.requires in
-    let H : HaloAt c.args.at c.args.mv 21 c.find-found.result.x c.find-found.result.y = c.find-found.ensures.halo_at c.if-found.true in
-    omega (arith, near_held 16 A H 0 (omega arith))
+overflow_add-from c = omega (arith, found_held 16 c.args.plane.now c.requires (c.find-found.ensures.halo_at c.if-found.true) 0 (omega arith))
 
 pub filter_wide-block-requires-clause-held : goal.filter_wide-block-requires-clause-held
-filter_wide-block-requires-clause-held c =
-    let A : PlaneAccepts (plane_at c.args.plane.now c.args.at) c.args.at.x c.args.at.y = plane_accepts _ _ _ c.requires in
-    let H : HaloAt c.args.at c.args.mv 21 c.find-found.result.x c.find-found.result.y = c.find-found.ensures.halo_at c.if-found.true in
-    near_held 16 A H
+filter_wide-block-requires-clause-held c = found_held 16 c.args.plane.now c.requires (c.find-found.ensures.halo_at c.if-found.true)
 
 pub took-requires : goal.took-requires
 took-requires c = omega (arith, few_fetched 21 _ _ _ _ (omega arith) (c.find-found.ensures.fetched_value c.if-found.true))
 
 pub returns-then-found-clause-value : goal.returns-then-found-clause-value
 returns-then-found-clause-value c =
-    let A : PlaneAccepts (plane_at c.args.plane.now c.args.at) c.args.at.x c.args.at.y = plane_accepts _ _ _ c.requires in
-    let H : HaloAt c.args.at c.args.mv 21 c.find-found.result.x c.find-found.result.y = c.find-found.ensures.halo_at c.if-found.true in
-    let window = near_window 16 A H in
+    let window = found_window 16 c.args.plane.now c.requires (c.find-found.ensures.halo_at c.if-found.true) in
     way_block 16 c.args.set _ c.args.at.x c.args.at.y c.args.mv
     (image_bytes _ (λ i. omega (arith, c.type_inv.plane i))) c.way_of-way.ensures window c.filter_wide-block.ensures.value
 
 pub returns-then-found-clause-all_after : goal.returns-then-found-clause-all_after
 returns-then-found-clause-all_after c =
-    let A : PlaneAccepts (plane_at c.args.plane.now c.args.at) c.args.at.x c.args.at.y = plane_accepts _ _ _ c.requires in
-    let H : HaloAt c.args.at c.args.mv 21 c.find-found.result.x c.find-found.result.y = c.find-found.ensures.halo_at c.if-found.true in
-    let window = near_window 16 A H in
+    let window = found_window 16 c.args.plane.now c.requires (c.find-found.ensures.halo_at c.if-found.true) in
     let fraction = sym c.whole_pixel_fraction_is_zero.ensures ∙ c.if-whole_pixel_fraction_is_zero.false in
     c.took.ensures
     ∙ takes-halo 16 c.args.set _ c.args.at.x c.args.at.y c.args.mv fraction c.way_of-way.ensures window (c.find-found.ensures.fetched_value c.if-found.true) c.filter_wide-block.ensures.tally_after

@@ -1,11 +1,10 @@
 -- `chroma::pair_of` filters both halos, near or far. Assumes nothing.
 use Rattle.std.proofs.Common.{refl, ap₂, ◌∙◌, arith}
-use Rattle.rfc6386.proofs.Laws.Refusals.{PlaneAccepts, plane_accepts}
+use Rattle.rfc6386.proofs.Laws.Refusals.{plane_accepts}
 use Rattle.rfc6386.proofs.Laws.Blocks.{image_bytes}
 use Rattle.steps.specs.Window.{beside}
-use Rattle.blocks.specs.Places.{plane_at, HaloAt}
 use Rattle.blocks.proofs.Fetches.{under_x, under_y}
-use Rattle.blocks.proofs.Windows.{way_block, near_held, near_window, alike_near, far_window, takes-halo, takes_both, fetched_alike, few_fetched}
+use Rattle.blocks.proofs.Windows.{way_block, found_held, found_window, alike_near, far_window, takes-halo, takes_both, fetched_alike, few_fetched}
 use Rattle.blocks.proofs.chroma.pair_of.Goals as goal
 
 pub find-found-requires-clause-x_bound : goal.find-found-requires-clause-x_bound
@@ -15,40 +14,24 @@ pub find-found-requires-clause-w_bound : goal.find-found-requires-clause-w_bound
 find-found-requires-clause-w_bound c = let A = plane_accepts _ _ _ c.requires.accepted in (A.width_most, A.height_most)
 
 pub overflow_mul-u_from : goal.overflow_mul-u_from
-overflow_mul-u_from c =
-    let U : PlaneAccepts (plane_at c.args.u.now c.args.u_at) c.args.u_at.x c.args.u_at.y = plane_accepts _ _ _ c.requires.accepted in
-    let H : HaloAt c.args.u_at c.args.mv 9 c.find-found.result.x c.find-found.result.y = c.find-found.ensures.halo_at c.if-found.true in
-    omega (arith, near_held 4 U H 0 (omega arith))
+overflow_mul-u_from c = omega (arith, found_held 4 c.args.u.now c.requires.accepted (c.find-found.ensures.halo_at c.if-found.true) 0 (omega arith))
 
 pub overflow_add-u_from : goal.overflow_add-u_from
-overflow_add-u_from c =
-    let U : PlaneAccepts (plane_at c.args.u.now c.args.u_at) c.args.u_at.x c.args.u_at.y = plane_accepts _ _ _ c.requires.accepted in
-    let H : HaloAt c.args.u_at c.args.mv 9 c.find-found.result.x c.find-found.result.y = c.find-found.ensures.halo_at c.if-found.true in
-    omega (arith, near_held 4 U H 0 (omega arith))
+overflow_add-u_from c = omega (arith, found_held 4 c.args.u.now c.requires.accepted (c.find-found.ensures.halo_at c.if-found.true) 0 (omega arith))
 
 pub overflow_mul-v_from : goal.overflow_mul-v_from
 overflow_mul-v_from c =
-    let V : PlaneAccepts (plane_at c.args.v.now c.args.v_at) c.args.v_at.x c.args.v_at.y = plane_accepts _ _ _ c.requires.accepted_2 in
-    let H : HaloAt c.args.u_at c.args.mv 9 c.find-found.result.x c.find-found.result.y = c.find-found.ensures.halo_at c.if-found.true in
-    omega (arith, near_held 4 V (alike_near c.requires.alike H) 0 (omega arith))
+    omega (arith, found_held 4 c.args.v.now c.requires.accepted_2 (alike_near c.requires.alike (c.find-found.ensures.halo_at c.if-found.true)) 0 (omega arith))
 
 pub overflow_add-v_from : goal.overflow_add-v_from
 overflow_add-v_from c =
-    let V : PlaneAccepts (plane_at c.args.v.now c.args.v_at) c.args.v_at.x c.args.v_at.y = plane_accepts _ _ _ c.requires.accepted_2 in
-    let H : HaloAt c.args.u_at c.args.mv 9 c.find-found.result.x c.find-found.result.y = c.find-found.ensures.halo_at c.if-found.true in
-    omega (arith, near_held 4 V (alike_near c.requires.alike H) 0 (omega arith))
+    omega (arith, found_held 4 c.args.v.now c.requires.accepted_2 (alike_near c.requires.alike (c.find-found.ensures.halo_at c.if-found.true)) 0 (omega arith))
 
 pub filter_pair-pair-requires-clause-held : goal.filter_pair-pair-requires-clause-held
-filter_pair-pair-requires-clause-held c =
-    let U : PlaneAccepts (plane_at c.args.u.now c.args.u_at) c.args.u_at.x c.args.u_at.y = plane_accepts _ _ _ c.requires.accepted in
-    let H : HaloAt c.args.u_at c.args.mv 9 c.find-found.result.x c.find-found.result.y = c.find-found.ensures.halo_at c.if-found.true in
-    near_held 4 U H
+filter_pair-pair-requires-clause-held c = found_held 4 c.args.u.now c.requires.accepted (c.find-found.ensures.halo_at c.if-found.true)
 
 pub filter_pair-pair-requires-clause-held_2 : goal.filter_pair-pair-requires-clause-held_2
-filter_pair-pair-requires-clause-held_2 c =
-    let V : PlaneAccepts (plane_at c.args.v.now c.args.v_at) c.args.v_at.x c.args.v_at.y = plane_accepts _ _ _ c.requires.accepted_2 in
-    let H : HaloAt c.args.u_at c.args.mv 9 c.find-found.result.x c.find-found.result.y = c.find-found.ensures.halo_at c.if-found.true in
-    near_held 4 V (alike_near c.requires.alike H)
+filter_pair-pair-requires-clause-held_2 c = found_held 4 c.args.v.now c.requires.accepted_2 (alike_near c.requires.alike (c.find-found.ensures.halo_at c.if-found.true))
 
 pub overflow_add-found : goal.overflow_add-found
 overflow_add-found c = omega (arith, few_fetched 9 _ _ _ _ (omega arith) (c.find-found.ensures.fetched_value c.if-found.true))
@@ -58,11 +41,9 @@ took-requires c = omega (arith, few_fetched 9 _ _ _ _ (omega arith) (c.find-foun
 
 pub returns-then-found-clause-value : goal.returns-then-found-clause-value
 returns-then-found-clause-value c =
-    let U : PlaneAccepts (plane_at c.args.u.now c.args.u_at) c.args.u_at.x c.args.u_at.y = plane_accepts _ _ _ c.requires.accepted in
-    let V : PlaneAccepts (plane_at c.args.v.now c.args.v_at) c.args.v_at.x c.args.v_at.y = plane_accepts _ _ _ c.requires.accepted_2 in
-    let H : HaloAt c.args.u_at c.args.mv 9 c.find-found.result.x c.find-found.result.y = c.find-found.ensures.halo_at c.if-found.true in
-    let u_window = near_window 4 U H in
-    let v_window = near_window 4 V (alike_near c.requires.alike H) in
+    let H = c.find-found.ensures.halo_at c.if-found.true in
+    let u_window = found_window 4 c.args.u.now c.requires.accepted H in
+    let v_window = found_window 4 c.args.v.now c.requires.accepted_2 (alike_near c.requires.alike H) in
     c.filter_pair-pair.ensures.value
     ∙ ap₂ (beside 4)
     (way_block 4 c.args.set _ c.args.u_at.x c.args.u_at.y c.args.mv (image_bytes _ (λ i. omega (arith, c.type_inv.u i))) c.way_of-way.ensures u_window refl)
@@ -70,11 +51,9 @@ returns-then-found-clause-value c =
 
 pub returns-then-found-clause-all_after : goal.returns-then-found-clause-all_after
 returns-then-found-clause-all_after c =
-    let U : PlaneAccepts (plane_at c.args.u.now c.args.u_at) c.args.u_at.x c.args.u_at.y = plane_accepts _ _ _ c.requires.accepted in
-    let V : PlaneAccepts (plane_at c.args.v.now c.args.v_at) c.args.v_at.x c.args.v_at.y = plane_accepts _ _ _ c.requires.accepted_2 in
-    let H : HaloAt c.args.u_at c.args.mv 9 c.find-found.result.x c.find-found.result.y = c.find-found.ensures.halo_at c.if-found.true in
-    let u_window = near_window 4 U H in
-    let v_window = near_window 4 V (alike_near c.requires.alike H) in
+    let H = c.find-found.ensures.halo_at c.if-found.true in
+    let u_window = found_window 4 c.args.u.now c.requires.accepted H in
+    let v_window = found_window 4 c.args.v.now c.requires.accepted_2 (alike_near c.requires.alike H) in
     c.took.ensures
     ∙ takes_both _ _ _ _ c.filter_pair-pair.ensures.tally_after
     (takes-halo 4 c.args.set _ c.args.u_at.x c.args.u_at.y c.args.mv c.requires.mv_value c.way_of-way.ensures u_window (c.find-found.ensures.fetched_value c.if-found.true) refl)

@@ -3,16 +3,16 @@ use Rattle.std.proofs.Common.{◌≡◌, refl, sym, ◌∙◌, ℕ, ℤ, ◌+◌
 use mathlib.Core.List.{List}
 use lib.ListN.{replicate}
 use Rattle.rfc6386.specs.Picture.{Plane, image, square}
-use Rattle.rfc6386.proofs.Laws.Refusals.{PlaneAccepts, plane_accepts}
+use Rattle.rfc6386.proofs.Laws.Refusals.{plane_accepts}
 use Rattle.rfc6386.proofs.Laws.Blocks.{image_bytes}
 use Rattle.rfc6386.proofs.Laws.Halos.{whole-block}
 use Rattle.steps.specs.Window.{window_list}
 use Rattle.steps.proofs.Laws.Windows.{put_as}
 use Rattle.steps.proofs.Laws.Parts.{side_most}
-use Rattle.blocks.specs.Places.{plane_at, HaloAt, halo_start, clamped_rect}
+use Rattle.blocks.specs.Places.{plane_at, halo_start, clamped_rect}
 use Rattle.blocks.proofs.Squares.{corner_is}
 use Rattle.blocks.proofs.Fetches.{under_x, under_y}
-use Rattle.blocks.proofs.Windows.{way_block, near_held, near_window, takes-pixels, takes-halo, few_fetched}
+use Rattle.blocks.proofs.Windows.{way_block, found_held, found_window, takes-pixels, takes-halo, few_fetched}
 use Rattle.blocks.proofs.sided.sided_into.Goals as goal
 
 -- a clamped rectangle in front of a list is its window
@@ -42,39 +42,28 @@ find-found-requires-clause-w_bound c = let A = plane_accepts _ _ _ c.requires.ac
 
 pub overflow_mul-from : goal.overflow_mul-from
 overflow_mul-from c =
-    let A : PlaneAccepts (plane_at c.args.plane.now c.args.at) c.args.at.x c.args.at.y = plane_accepts _ _ _ c.requires.accepted in
-    let H : HaloAt c.args.at c.args.mv (c.args.n + 5) c.find-found.result.x c.find-found.result.y = c.find-found.ensures.halo_at c.if-found.true in
-    omega (arith, near_held c.args.n A H 0 (omega arith))
+    omega (arith, found_held c.args.n c.args.plane.now c.requires.accepted (c.find-found.ensures.halo_at c.if-found.true) 0 (omega arith))
 
 pub overflow_add-from : goal.overflow_add-from
 overflow_add-from c =
-    let A : PlaneAccepts (plane_at c.args.plane.now c.args.at) c.args.at.x c.args.at.y = plane_accepts _ _ _ c.requires.accepted in
-    let H : HaloAt c.args.at c.args.mv (c.args.n + 5) c.find-found.result.x c.find-found.result.y = c.find-found.ensures.halo_at c.if-found.true in
-    omega (arith, near_held c.args.n A H 0 (omega arith))
+    omega (arith, found_held c.args.n c.args.plane.now c.requires.accepted (c.find-found.ensures.halo_at c.if-found.true) 0 (omega arith))
 
 pub filter_sided-tally-requires-clause-held : goal.filter_sided-tally-requires-clause-held
-filter_sided-tally-requires-clause-held c =
-    let A : PlaneAccepts (plane_at c.args.plane.now c.args.at) c.args.at.x c.args.at.y = plane_accepts _ _ _ c.requires.accepted in
-    let H : HaloAt c.args.at c.args.mv (c.args.n + 5) c.find-found.result.x c.find-found.result.y = c.find-found.ensures.halo_at c.if-found.true in
-    near_held c.args.n A H
+filter_sided-tally-requires-clause-held c = found_held c.args.n c.args.plane.now c.requires.accepted (c.find-found.ensures.halo_at c.if-found.true)
 
 pub took-requires : goal.took-requires
 took-requires c = omega (arith, few_fetched (c.args.n + 5) _ _ _ _ (omega (arith, side_most c.requires.side)) (c.find-found.ensures.fetched_value c.if-found.true))
 
 pub returns-then-found-clause-out_after : goal.returns-then-found-clause-out_after
 returns-then-found-clause-out_after c =
-    let A : PlaneAccepts (plane_at c.args.plane.now c.args.at) c.args.at.x c.args.at.y = plane_accepts _ _ _ c.requires.accepted in
-    let H : HaloAt c.args.at c.args.mv (c.args.n + 5) c.find-found.result.x c.find-found.result.y = c.find-found.ensures.halo_at c.if-found.true in
-    let window = near_window c.args.n A H in
+    let window = found_window c.args.n c.args.plane.now c.requires.accepted (c.find-found.ensures.halo_at c.if-found.true) in
     put_as _ _ _ _ c.args.n c.filter_sided-tally.ensures.out_after
     (way_block c.args.n c.args.set _ c.args.at.x c.args.at.y c.args.mv
     (image_bytes _ (λ i. omega (arith, c.type_inv.plane i))) c.way_of-way.ensures window refl)
 
 pub returns-then-found-clause-value : goal.returns-then-found-clause-value
 returns-then-found-clause-value c =
-    let A : PlaneAccepts (plane_at c.args.plane.now c.args.at) c.args.at.x c.args.at.y = plane_accepts _ _ _ c.requires.accepted in
-    let H : HaloAt c.args.at c.args.mv (c.args.n + 5) c.find-found.result.x c.find-found.result.y = c.find-found.ensures.halo_at c.if-found.true in
-    let window = near_window c.args.n A H in
+    let window = found_window c.args.n c.args.plane.now c.requires.accepted (c.find-found.ensures.halo_at c.if-found.true) in
     let fraction = sym c.whole_pixel_fraction_is_zero.ensures ∙ c.if-whole_pixel_fraction_is_zero.false in
     c.took.ensures
     ∙ takes-halo c.args.n c.args.set _ c.args.at.x c.args.at.y c.args.mv fraction c.way_of-way.ensures window (c.find-found.ensures.fetched_value c.if-found.true) c.filter_sided-tally.ensures.value
