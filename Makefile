@@ -212,18 +212,15 @@ target/programs/%: programs/%.c programs/files.c programs/files.h include/thresh
 tools:
 	tools/x86-64-tools
 
-# rt knows itself what has changed.
-target/staticlib/libthreshowl.a: FORCE
-	@echo "Proving and building libthreshowl.a: some ten minutes the first time, seconds where nothing changed."
-	mkdir -p $(@D)
-	cd crates/threshowl && rt lib
-	cp crates/threshowl/out/libthreshowl.a $@
+# rt knows itself what has changed. `shims` is a library of Rattle's, and shims_c exports its functions for C.
+CRATE_threshowl = threshowl
+CRATE_shims = shims_c
 
-# The crate `shims` is a library of Rattle's; shims_c exports its functions for C.
-target/staticlib/libshims.a: FORCE
+target/staticlib/lib%.a: FORCE
+	@echo "Proving and building lib$*.a: some ten minutes the first time, seconds where nothing changed."
 	mkdir -p $(@D)
-	cd crates/shims_c && rt lib
-	cp crates/shims_c/out/libshims_c.a $@
+	cd crates/$(CRATE_$*) && rt lib
+	cp crates/$(CRATE_$*)/out/lib$(CRATE_$*).a $@
 
 rust-named:
 	@[ -n "$(RUST)" ] || { echo "say which Rust: make ... RUST=FOLDER-OF-motion_comp.rs" >&2; exit 2; }
