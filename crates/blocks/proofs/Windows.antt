@@ -2,20 +2,19 @@
 use mathlib.Core.Path.{◌≡◌, sym, ap, ap₂, ◌∙◌, subst}
 use mathlib.Core.Bool.{Bool, true, false, cond}
 use mathlib.Core.List.{List}
-use Prim.Native.Nat.{ℕ, ◌+◌, ◌*◌, ◌<◌, ◌≤◌}
+use Prim.Native.Nat.{ℕ, ◌+◌, ◌*◌, ◌≤◌}
 use native.Mathlib.Nat.{mul-le-mul}
 use native.Mathlib.Omega.{arith}
 use lib.IntN.{ℤ}
 use lib.ListN.{length, get_or}
-use Rattle.rfc6386.specs.Vector.{fraction, is_whole}
+use Rattle.rfc6386.specs.Vector.{is_whole}
 use Rattle.rfc6386.specs.Raster.{raster}
-use Rattle.rfc6386.specs.Picture.{Plane, Image, image, square, block, pixels, halo, halo_block}
+use Rattle.rfc6386.specs.Picture.{Plane, Image, image, square, block, halo, halo_block}
 use Rattle.rfc6386.specs.Fetched.{square_of, pixels_of, halo_of, block_of}
 use Rattle.rfc6386.specs.Clips.{halo_clips}
 use Rattle.rfc6386.proofs.Laws.Raster.{length-raster}
-use Rattle.rfc6386.proofs.Laws.Refusals.{PlaneAccepts, plane_accepts}
+use Rattle.rfc6386.proofs.Laws.Refusals.{PlaneAccepts}
 use Rattle.rfc6386.proofs.Laws.Samples.{Bytes}
-use Rattle.rfc6386.proofs.Laws.Vectors.{fraction-under}
 use Rattle.rfc6386.proofs.Laws.Halos.{filtered-block}
 use Rattle.rfc6386.proofs.Laws.Fetched.{length-square}
 use Rattle.rfc6386.proofs.Laws.Clipping.{filtered_clips, whole_clips_lem}
@@ -27,28 +26,19 @@ use Rattle.steps.specs.Window.{window_list, window_block, sample_of, Strips}
 use Rattle.steps.proofs.Laws.Windows.{window_whole, window_block_lem}
 use Rattle.steps.specs.declared.way.Way.{Way}
 use Rattle.steps.specs.declared.rect.Window.{Window}
-use Rattle.blocks.specs.Places.{plane_at, Accepted, Alike, Lies, halo_start, HaloAt}
+use Rattle.blocks.specs.Lents.{plane_in}
+use Rattle.blocks.specs.Places.{WayOf, plane_at, Alike, Lies, halo_start, HaloAt}
 use Rattle.blocks.specs.Taken.{block_takes}
 use Rattle.blocks.specs.declared.place.Place.{Place}
+use Rattle.blocks.specs.declared.lent.Lent.{Lent}
 use Rattle.blocks.proofs.Squares.{plain_held, near_is}
-
--- how a vector's block is filtered
-abbrev pub way_of : Mv → FilterSet → Way
-way_of v set = record { set = set; mx = fraction v.col; my = fraction v.row }
-
-module _ (v : Mv) (set : FilterSet) {w : Way} (e : w ≡ way_of v set) where
-  pub way_mx : w.mx < 8
-  way_mx = omega (arith, ap (λ (w : Way). w.mx) e, fraction-under v.col)
-
-  pub way_my : w.my < 8
-  way_my = omega (arith, ap (λ (w : Way). w.my) e, fraction-under v.row)
+use Rattle.blocks.proofs.Fetches.{accepted}
 
 -- THEOREM. Out of a list that is the halo, it makes the block.
-pub way_block : (n : ℕ) (set : FilterSet) (img : Image) (x y : ℕ) (v : Mv) → Bytes img → {w : Way} → w ≡ way_of v set → {l o : List ℕ} → l ≡ halo n img x y v
+pub way_block : (n : ℕ) (set : FilterSet) (img : Image) (x y : ℕ) (v : Mv) → Bytes img → {w : Way} → WayOf v set w → {l o : List ℕ} → l ≡ halo n img x y v
     → o ≡ halo_block n w.set l w.mx w.my → o ≡ block n set img x y v
 way_block n set img x y v B {w} e {l} h q =
-    filtered-block n set img x y v B h (ap (λ (w : Way). w.mx) e) (ap (λ (w : Way). w.my) e)
-    (q ∙ ap (λ (s : FilterSet). halo_block n s l w.mx w.my) (ap (λ (w : Way). w.set) e))
+    filtered-block n set img x y v B h e.mx_is e.my_is (q ∙ ap (λ (s : FilterSet). halo_block n s l w.mx w.my) e.set_is)
 
 -- ---- near: the window in the plane
 module _ (n : ℕ) {bytes : List ℕ} {at : Place} {v : Mv} {i j : ℕ} (A : PlaneAccepts (plane_at bytes at) at.x at.y) (H : HaloAt at v (n + 5) i j) where
@@ -58,16 +48,13 @@ module _ (n : ℕ) {bytes : List ℕ} {at : Place} {v : Mv} {i j : ℕ} (A : Pla
   pub near_window : window_list (n + 5) bytes (j * at.stride + i) at.stride ≡ halo n (image (plane_at bytes at)) at.x at.y v
   near_window = near_is A.fits H.across H.down
 
--- the same from what a caller promises, and what `find` then gives
-module _ (n : ℕ) (bytes : List ℕ) {at : Place} {v : Mv} {i j : ℕ} (a : Accepted bytes at) (H : HaloAt at v (n + 5) i j) where
-  abbrev accepts : PlaneAccepts (plane_at bytes at) at.x at.y
-  accepts = plane_accepts (plane_at bytes at) at.x at.y a
+-- the same of what is lent, where `find` found the halo and `window` says where it lies
+module _ (n : ℕ) (l : Lent) {v : Mv} {i j : ℕ} {w : Window} (e : w ≡ record { at = j * l.at.stride + i; pitch = l.at.stride }) (H : HaloAt l.at v (n + 5) i j) where
+  pub found_held : Held (length l.plane.now) w.at w.pitch (n + 5) (n + 5)
+  found_held = subst (λ (w : Window). Held (length l.plane.now) w.at w.pitch (n + 5) (n + 5)) (sym e) (near_held n (accepted l) H)
 
-  pub found_held : Held (length bytes) (j * at.stride + i) at.stride (n + 5) (n + 5)
-  found_held = near_held n accepts H
-
-  pub found_window : window_list (n + 5) bytes (j * at.stride + i) at.stride ≡ halo n (image (plane_at bytes at)) at.x at.y v
-  found_window = near_window n accepts H
+  pub found_window : window_list (n + 5) l.plane.now w.at w.pitch ≡ halo n (image (plane_in l)) l.at.x l.at.y v
+  found_window = ap (λ (w : Window). window_list (n + 5) l.plane.now w.at w.pitch) e ∙ near_window n (accepted l) H
 
 -- what is found of U holds of V
 pub alike_near : {p q : Place} {v : Mv} {n i j : ℕ} → Alike p q → HaloAt p v n i j → HaloAt q v n i j
@@ -76,11 +63,6 @@ alike_near {p} {q} {v} {n} {i} {j} A H =
       across = subst (λ (k : ℕ). Lies (halo_start k v.col) n q.w i) A.column (subst (λ (k : ℕ). Lies (halo_start p.x v.col) n k i) A.width H.across);
       down = subst (λ (k : ℕ). Lies (halo_start k v.row) n q.h j) A.row (subst (λ (k : ℕ). Lies (halo_start p.y v.row) n k j) A.height H.down);
     }
-
--- ---- whole pixels
-pub pixels_size : (n : ℕ) (img : Image) (x y : ℕ) (v : Mv) {l : List ℕ} → l ≡ pixels n img x y v → length l ≡ n * n
-unfolding square
-pixels_size n img x y v e = ap length e ∙ length-raster n n _
 
 -- ---- far: the whole of a copy
 module _ (n : ℕ) (img : Image) (x y : ℕ) (v : Mv) {l : List ℕ} (e : l ≡ halo n img x y v) where
@@ -124,14 +106,13 @@ module _ (n : ℕ) (set : FilterSet) (p : Plane) (x y : ℕ) (v : Mv) where
   takes-pixels e h = alone (fetched-pixels n p x y v e h) (ap tally_of (whole_clips_lem n set (image p) x y v e))
 
   -- THEOREM. A filtered block takes the count of its halo and what is tallied over a list that is the halo.
-  pub takes-halo : is_whole v ≡ false → {w : Way} → w ≡ way_of v set → {l : List ℕ} → l ≡ halo n (image p) x y v → {f tally : ℕ} → f ≡ length (halo_of n p x y v)
+  pub takes-halo : is_whole v ≡ false → {w : Way} → WayOf v set w → {l : List ℕ} → l ≡ halo n (image p) x y v → {f tally : ℕ} → f ≡ length (halo_of n p x y v)
       → tally ≡ tally_of (halo_clips n w.set l w.mx w.my) → f + 4294967296 * tally ≡ block_takes n set p x y v
   takes-halo e {w} d {l} h k t =
       ap₂ (λ (f tally : ℕ). f + 4294967296 * tally) (fetched-halo n p x y v e k)
       (t
       ∙ ap tally_of
-      (ap (λ (s : FilterSet). halo_clips n s l w.mx w.my) (ap (λ (w : Way). w.set) d)
-      ∙ filtered_clips n set (image p) x y v h (ap (λ (w : Way). w.mx) d) (ap (λ (w : Way). w.my) d)))
+      (ap (λ (s : FilterSet). halo_clips n s l w.mx w.my) d.set_is ∙ filtered_clips n set (image p) x y v h d.mx_is d.my_is))
 
 -- two blocks, one of each chroma plane, whose tallies came added up; squares of one side fetch alike
 pub takes_both : (f g s t : ℕ) {tally a b : ℕ} → tally ≡ s + t → f + 4294967296 * s ≡ a → g + 4294967296 * t ≡ b → f + g + 4294967296 * tally ≡ a + b

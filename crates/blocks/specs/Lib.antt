@@ -2,3 +2,4 @@
 pub mod Places
 pub mod Taken
 pub mod Laws
+pub mod Lents

@@ -3,14 +3,16 @@ use Rattle.std.specs.Prelude.{◌≡◌, List, ℕ, ◌+◌, ◌≤◌, get_or, 
 use Rattle.signed.specs.Int.{up, dn}
 use Rattle.signed.specs.Held.{Within}
 use Rattle.rfc6386.specs.Number.{clamped}
-use Rattle.rfc6386.specs.Vector.{whole_part}
+use Rattle.rfc6386.specs.Vector.{whole_part, fraction}
 use Rattle.rfc6386.specs.Raster.{written}
 use Rattle.rfc6386.specs.Picture.{Plane, image}
 use Rattle.rfc6386.specs.Refusal.{plane_refusal}
 use Rattle.rfc6386.specs.Block.{plane_of}
 use Rattle.rfc6386.specs.Refusal.{Fits}
 use Rattle.rfc6386.specs.declared.Mv.{Mv}
+use Rattle.rfc6386.specs.declared.FilterSet.{FilterSet}
 use Rattle.steps.specs.Rows.{laid}
+use Rattle.steps.specs.declared.way.Way.{Way}
 use Rattle.blocks.specs.declared.place.Place.{Place}
 
 -- a coordinate so near that nothing added to it here leaves 64 bits
@@ -66,3 +68,9 @@ halo_start at m = pos at +ℤ whole_part m -ℤ pos 2
 pub record HaloAt (at : Place) (v : Mv) (n i j : ℕ) : Type 0 where
   pub across : Lies (halo_start at.x v.col) n at.w i
   pub down : Lies (halo_start at.y v.row) n at.h j
+
+-- how the block of a vector is filtered
+pub record WayOf (v : Mv) (set : FilterSet) (w : Way) : Type 0 where
+  pub set_is : w.set ≡ set
+  pub mx_is : w.mx ≡ fraction v.col
+  pub my_is : w.my ≡ fraction v.row

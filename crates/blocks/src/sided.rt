@@ -1,73 +1,72 @@
 // Blocks of 4, 8 or 16 samples a side, fetched, filtered and put into rectangles.
-ghost use Rattle.std.specs.Prelude.{◌≡◌, ◌+◌, ◌*◌, ◌≤◌, length};
+ghost use Rattle.std.specs.Prelude.{◌≡◌, ◌+◌, ◌*◌, length};
 ghost use Rattle.rfc6386.specs.Picture as picture;
-ghost use Rattle.rfc6386.specs.Fetched.{halo_of};
 ghost use Rattle.steps.specs.Rows.{Room};
 ghost use Rattle.steps.specs.Side.{Side};
 ghost use Rattle.steps.specs.Window.{put};
-ghost use Rattle.blocks.specs.Places.{plane_at, Accepted, halo_start, clamped_rect};
+ghost use Rattle.blocks.specs.Lents.{plane_in};
 ghost use Rattle.blocks.specs.Taken.{block_takes};
 
 use crate::block::way_of;
+use crate::lent::Lent;
 use crate::near::find;
-use crate::place::Place;
-use crate::square::{clamped, fetch_pixels, origin};
+use crate::square::{halo_of, pixels_into};
 use crate::taken::took;
 use filters::sided::filter_sided;
 use motion_vectors::whole_pixel_fraction_is_zero;
 use rfc6386::{FilterSet, Mv};
 use steps::rect::{Spot, Window};
 
-// The clamped halo of a block of n samples a side, to the first (n + 5) * (n + 5) bytes of out; gives how many samples that fetches.
-fn clamped_halo(plane: &[u8], at: Place, mv: Mv, n: usize, out: &mut [u8]) -> u64
-    requires accepted { Accepted plane.now at }
-    requires n_bound { n ≤ 16 }
-    requires n_in_bounds { (n + 5) * (n + 5) ≤ length out.old }
-    ensures out_after { out.new ≡ clamped_rect (plane_at plane.now at) (halo_start at.x mv.col) (halo_start at.y mv.row) (n + 5) (n + 5) out.old }
-    ensures value { result ≡ length (halo_of n (plane_at plane.now at) at.x at.y mv) }
+// The block of SIDE samples a side: whole pixels where the vector has no fraction, else filtered, out of the plane where the halo lies inside
+// it, else out of a clamped copy. Gives what it took.
+pub fn block_into<const SIDE: usize, const HALO: usize>(
+    lent: Lent<'_>,
+    mv: Mv,
+    set: FilterSet,
+    out: &mut [u8],
+    spot: Spot,
+) -> u64
+    requires side { Side SIDE }
+    requires halo_len { HALO ≡ (SIDE + 5) * (SIDE + 5) }
+    requires room { Room (length out.old) spot.stride spot.x spot.y SIDE SIDE }
+    ensures out_after { out.new ≡ put out.old spot SIDE (picture.block SIDE set (picture.image (plane_in lent.entry)) lent.entry.at.x lent.entry.at.y mv) }
+    ensures value { result ≡ block_takes SIDE set (plane_in lent.entry) lent.entry.at.x lent.entry.at.y mv }
 {
-    let x0 = origin(at.x, mv.col) - 2;
-    let y0 = origin(at.y, mv.row) - 2;
-    clamped(plane, at, x0, y0, n + 5, n + 5, out);
-    ((n + 5) * (n + 5)) as u64
+    if whole_pixel_fraction_is_zero(mv) {
+        return pixels_into::<SIDE>(lent, mv, out, spot);
+    }
+    let way = way_of(mv, set);
+    if let Some(found) = find(lent, mv, SIDE + 5) {
+        let tally = filter_sided::<SIDE>(lent.plane, lent.window(found), way, out, spot);
+        return took(found.fetched, tally);
+    }
+    let mut fetched: u64 = 0;
+    let halo = halo_of::<SIDE, HALO>(lent, mv, &mut fetched);
+    let whole = Window {
+        at: 0,
+        pitch: SIDE + 5,
+    };
+    let tally = filter_sided::<SIDE>(&halo, whole, way, out, spot);
+    took(fetched, tally)
 }
 
-// The block of n samples a side: whole pixels where the vector has no fraction, else filtered, out of the plane where the halo lies inside it, else
-// out of a clamped copy. Gives what it took.
+// The same of a side that is known only when running.
 pub fn sided_into(
-    plane: &[u8],
-    at: Place,
+    lent: Lent<'_>,
     mv: Mv,
     set: FilterSet,
     n: usize,
     out: &mut [u8],
     spot: Spot,
 ) -> u64
-    requires accepted { Accepted plane.now at }
     requires side { Side n }
     requires room { Room (length out.old) spot.stride spot.x spot.y n n }
-    ensures out_after { out.new ≡ put out.old spot n (picture.block n set (picture.image (plane_at plane.now at)) at.x at.y mv) }
-    ensures value { result ≡ block_takes n set (plane_at plane.now at) at.x at.y mv }
+    ensures out_after { out.new ≡ put out.old spot n (picture.block n set (picture.image (plane_in lent.entry)) lent.entry.at.x lent.entry.at.y mv) }
+    ensures value { result ≡ block_takes n set (plane_in lent.entry) lent.entry.at.x lent.entry.at.y mv }
 {
-    if whole_pixel_fraction_is_zero(mv) {
-        return fetch_pixels(plane, at, mv, n, n, n, out, spot);
+    match n {
+        4 => block_into::<4, 81>(lent, mv, set, out, spot),
+        8 => block_into::<8, 169>(lent, mv, set, out, spot),
+        _ => block_into::<16, 441>(lent, mv, set, out, spot),
     }
-    let way = way_of(mv, set);
-    let found = find(at, mv, n + 5);
-    if found.near {
-        let from = Window {
-            at: found.y * at.stride + found.x,
-            pitch: at.stride,
-        };
-        let tally = filter_sided(plane, from, way, n, out, spot);
-        return took(found.fetched, tally);
-    }
-    let mut halo = [0u8; 441];
-    let fetched = clamped_halo(plane, at, mv, n, &mut halo);
-    let whole = Window {
-        at: 0,
-        pitch: n + 5,
-    };
-    let tally = filter_sided(&halo, whole, way, n, out, spot);
-    took(fetched, tally)
 }

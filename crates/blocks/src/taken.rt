@@ -1,4 +1,5 @@
 // What blocks take, in one number that is added up: how many samples they fetch, and above 32 bits the tally of those that are clipped.
+// It is no record of two, so that every function above the filters adds once a block.
 ghost use Rattle.std.specs.Prelude.{◌≡◌, ◌+◌, ◌-◌, ◌*◌, ◌/◌, ◌%◌, ◌<◌, ◌≤◌};
 
 use rfc6386::Clips;

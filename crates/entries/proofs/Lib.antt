@@ -1,2 +1,1 @@
--- Laws that several proofs of this crate cite.
-pub mod Laws
+pub mod Told

@@ -1,7 +1,6 @@
 // The entries for Rattle: prediction over a record that holds the three lent planes, as in the Rust, and over a lent list of vectors.
 #![tactic(auto)]
 
-mod listed;
 pub mod lists;
 pub mod planes;
 pub mod sixteen;

@@ -1,20 +1,21 @@
 -- The three planes of a frame as the loops fill them: a macroblock more, a row more, and all. Assumes nothing.
-use mathlib.Core.Path.{◌≡◌, refl, sym, ap, ◌∙◌, subst}
+use mathlib.Core.Path.{◌≡◌, sym, ap, ◌∙◌, subst}
+use mathlib.Core.Bool.{false}
 use mathlib.Core.List.{List}
 use Prim.Native.Nat.{ℕ, ◌+◌, ◌*◌, ◌<◌, ◌≤◌}
 use native.Mathlib.Omega.{arith}
 use lib.ListN.{length, get_or}
 use Rattle.rfc6386.specs.Raster.{written}
-use Rattle.rfc6386.specs.Macroblock.{Reference, lent, refusal}
+use Rattle.rfc6386.specs.Macroblock.{Reference, refusal}
 use Rattle.rfc6386.specs.Channel.{luma, chroma_u, chroma_v}
 use Rattle.rfc6386.proofs.Laws.Refusals.{done, refused, or_else-zero}
 use Rattle.steps.specs.Rows.{Room}
 use Rattle.outputs.specs.Output.{flat}
 use Rattle.outputs.specs.Laws.{Counted, zeros}
-use Rattle.frame.specs.Frame.{Planes, named, reference, reference_code, kind_code, vectors_at, Asked, cols, rows, single, ordered, prediction_at, frame_plane, references_refusal, output_refusal, frame_number, Fills}
+use Rattle.frame.specs.Frame.{Planes, reference, reference_code, kind_code, vectors_at, bad_order, any_bad, Asked, cols, rows, ordered, prediction_at, frame_plane, references_refusal, output_refusal, frame_number, Fills}
 use Rattle.frame.specs.Inner.{Ready, rows_part, RowWritten, RowsWritten}
 use Rattle.frame.proofs.Placing.{row_none, row_more, rows_none, rows_more, room_at}
-use Rattle.frame.specs.Laws.{flat_y, flat_u, flat_v, flat-length, single_counted, order_in, references-sized, reference_accepted, output-holds, orders_count}
+use Rattle.frame.specs.Laws.{flat_y, flat_u, flat_v, flat-length, single_counted, order_in, references-sized, reference_accepted, output-holds, orders_count, orders_good, good_at}
 use Rattle.frame.specs.declared.Strides.{Strides}
 
 module _ (a : Asked) (s : Strides) (out : Planes) where
@@ -56,6 +57,9 @@ module _ {a : Asked} {s : Strides} {y u v col row : ℕ} (T : Turn a s y u v col
   pub order_lies : 66 * k + 66 ≤ length a.orders
   order_lies = omega (arith, order_in (cols a) (rows a) col row T.col_in T.row_in, T.ready.orders_are)
 
+  pub order_good : any_bad a.orders (rows a * cols a) ≡ false → bad_order a.orders k ≡ false
+  order_good e = good_at a.orders (rows a * cols a) k e (omega (arith, order_in (cols a) (rows a) col row T.col_in T.row_in))
+
   pub small : (col < 1024) × (row < 1024)
   small =
       let S = references-sized a.refs T.ready.accepted in
@@ -71,35 +75,21 @@ module _ {a : Asked} {s : Strides} {y u v col row : ℕ} (T : Turn a s y u v col
   pub v_place : {n : ℕ} → n ≡ v → Room n s.v (col * 8) (row * 8) 8 8
   v_place e = subst (λ (n : ℕ). Room n s.v (col * 8) (row * 8) 8 8) (sym e) (room_at v s.v 8 (cols a) (rows a) col row (omega arith) T.ready.v_room T.col_in T.row_in)
 
-  -- the three planes that were chosen by its code
-  pub chosen : {py pu pv : List ℕ}
-      → py ≡ named (reference_code a.orders k) a.refs.last.y a.refs.golden.y a.refs.altref.y
-      → pu ≡ named (reference_code a.orders k) a.refs.last.u a.refs.golden.u a.refs.altref.u
-      → pv ≡ named (reference_code a.orders k) a.refs.last.v a.refs.golden.v a.refs.altref.v
-      → lent py pu pv a.refs.sizes ≡ own
-  chosen p q r = λ i. lent (p i) (q i) (r i) a.refs.sizes
-
-  pub order_accepted : {ref : Reference} → ref ≡ own → refusal ref col row ≡ 0
-  order_accepted e =
-      ap (λ (ref : Reference). refusal ref col row) e
-      ∙ reference_accepted a.refs T.ready.accepted (reference_code a.orders k) col row T.col_in T.row_in
+  pub order_accepted : refusal own col row ≡ 0
+  order_accepted = reference_accepted a.refs T.ready.accepted (reference_code a.orders k) col row T.col_in T.row_in
 
   counted : Counted (prediction_at a col row).samples
   unfolding ordered
-  counted = single_counted a.set a.low own (kind_code a.orders k) col row (vectors_at a.orders k) (order_accepted refl)
+  counted = single_counted a.set a.low own (kind_code a.orders k) col row (vectors_at a.orders k) order_accepted
 
   -- what its order leaves, put in its place
-  module _ {ref : Reference} {mb : List ℕ} (e : ref ≡ own) (f : mb ≡ flat (single a.set a.low ref (kind_code a.orders k) col row (vectors_at a.orders k)).samples) where
-    mb_is : mb ≡ flat (prediction_at a col row).samples
-    unfolding ordered
-    mb_is = f ∙ ap (λ (ref : Reference). flat (single a.set a.low ref (kind_code a.orders k) col row (vectors_at a.orders k)).samples) e
-
+  module _ {mb : List ℕ} (e : mb ≡ flat (prediction_at a col row).samples) where
     pub order_full : length mb ≡ 384
-    order_full = ap length mb_is ∙ flat-length (prediction_at a col row).samples counted
+    order_full = ap length e ∙ flat-length (prediction_at a col row).samples counted
 
     -- a byte of it
     at : {i j : ℕ} {b : ℕ} → i ≡ j → get_or (flat (prediction_at a col row).samples) j 0 ≡ b → get_or mb i 0 ≡ b
-    at {j = j} p q = ap (λ (n : ℕ). get_or mb n 0) p ∙ ap (λ (l : List ℕ). get_or l j 0) mb_is ∙ q
+    at {j = j} p q = ap (λ (n : ℕ). get_or mb n 0) p ∙ ap (λ (l : List ℕ). get_or l j 0) e ∙ q
 
     pub row_on : {out out₁ out₂ : Planes} → RowWritten a s row col out out₁
         → out₂.y ≡ written out₁.y s.y (col * 16) (row * 16) 16 16 (λ r c. get_or mb (0 + r * 16 + c) 0)
@@ -148,6 +138,12 @@ module _ (a : Asked) (codes : ℕ) (out : Planes) (s : Strides) {n : ℕ} (e : n
           v_room = H.2;
           orders_are = orders_count a.orders (rows a * cols a) (zeros (output_refusal out s a.refs.sizes) _ later);
         }
+
+    pub good : any_bad a.orders (rows a * cols a) ≡ false
+    unfolding frame_number
+    good =
+        orders_good a.orders (rows a * cols a)
+        (zeros (output_refusal out s a.refs.sizes) _ (zeros codes _ (zeros (references_refusal a.refs) _ none)))
 
     pub fills-done : {out' : Planes} → RowsWritten a s (rows a) out out' → Fills a codes out s 0 out'
     unfolding rows_part frame_plane

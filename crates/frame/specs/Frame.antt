@@ -1,6 +1,7 @@
 -- A whole frame at once: three references, an order for each macroblock, and the planes that the answer is written to.
 use Rattle.std.specs.Prelude.{◌≡◌, Bool, false, cond, not, ◌||◌, List, ℕ, zero, suc, ◌+◌, ◌*◌, ◌/◌, ◌%◌, ltb, eqb, length, get_or, take, drop}
-use Rattle.rfc6386.specs.Vector.{Lowering, lowering_of, sent}
+use Rattle.rfc6386.specs.Vector.{lowering_of, sent}
+use Rattle.rfc6386.specs.declared.Lowering.{Lowering}
 use Rattle.rfc6386.specs.Raster.{written}
 use Rattle.rfc6386.specs.Refusal.{or_else, if_done}
 use Rattle.rfc6386.specs.Macroblock.{Reference, lent, size_test, stride_test, length_test, whole, split}
@@ -9,7 +10,7 @@ use Rattle.vector_bytes.specs.Bytes.{vectors_of}
 use Rattle.rfc6386.specs.declared.Mv.{Mv}
 use Rattle.rfc6386.specs.declared.FilterSet.{FilterSet}
 use Rattle.rfc6386.specs.declared.Sizes.{Sizes}
-use Rattle.rfc6386.specs.declared.Prediction.{Prediction}
+use Rattle.rfc6386.specs.Answer.{Prediction}
 use Rattle.frame.specs.declared.Strides.{Strides}
 use Rattle.frame.specs.declared.Frame.{Frame}
 

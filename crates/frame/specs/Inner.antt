@@ -2,8 +2,32 @@
 use Rattle.std.specs.Prelude.{◌≡◌, List, ℕ, ◌+◌, ◌-◌, ◌*◌, ◌≤◌, length}
 use Rattle.rfc6386.specs.Raster.{written}
 use Rattle.rfc6386.specs.Channel.{Channel, luma, chroma_u, chroma_v, side}
-use Rattle.frame.specs.Frame.{Planes, Asked, cols, rows, frame_sample, references_refusal}
+use Rattle.rfc6386.specs.declared.Sizes.{Sizes}
+use Rattle.frame.specs.Frame.{Planes, planes, References, references_of, Asked, asked_of, cols, rows, frame_sample, references_refusal}
 use Rattle.frame.specs.declared.Strides.{Strides}
+use Rattle.frame.specs.declared.pictures.Picture.{Picture}
+use Rattle.frame.specs.declared.pictures.Pictures.{Pictures}
+use Rattle.frame.specs.declared.pictures.Task.{Task}
+use Rattle.frame.specs.declared.pictures.Named.{Named}
+use Rattle.frame.specs.declared.pictures.Named.TheVariants.{Last, Golden, Altref}
+
+-- ---- the pictures that are lent
+abbrev pub planes_in : Picture → Planes
+planes_in p = planes p.y.now p.u.now p.v.now
+
+abbrev pub planes_named : Named → Pictures → Planes
+planes_named Last p = planes_in p.last
+planes_named Golden p = planes_in p.golden
+planes_named Altref p = planes_in p.altref
+
+abbrev pub references_in : Sizes → Pictures → References
+references_in sizes p =
+    references_of sizes p.last.y.now p.last.u.now p.last.v.now p.golden.y.now p.golden.u.now p.golden.v.now p.altref.y.now p.altref.u.now p.altref.v.now
+
+abbrev pub asked_in : Task → Asked
+asked_in t =
+    let p = t.pictures in
+    asked_of t.frame p.last.y.now p.last.u.now p.last.v.now p.golden.y.now p.golden.u.now p.golden.v.now p.altref.y.now p.altref.u.now p.altref.v.now t.orders.now
 
 -- so many bytes hold a plane of w by h samples
 pub record Holds (bytes stride w h : ℕ) : Type 0 where

@@ -9,7 +9,8 @@ use Rattle.std.proofs.Math.ListN.{get_or-append}
 use borrow.Author.Tests.{eqb-true, eqb-false, eq-eqb, ne_eqb, lt-leb, le-ltb, ltb-false}
 use Rattle.rfc6386.specs.Picture.{Plane}
 use Rattle.rfc6386.specs.Refusal.{or_else, room_refusal, stride_fault, length_fault}
-use Rattle.rfc6386.specs.Vector.{Lowering, zero_vector, sent}
+use Rattle.rfc6386.specs.Vector.{zero_vector, sent}
+use Rattle.rfc6386.specs.declared.Lowering.{Lowering}
 use Rattle.rfc6386.specs.Macroblock.{Reference, plane_y, plane_u, plane_v, size_test, stride_test, length_test, place_test, refusal, answered, whole, split}
 use Rattle.rfc6386.specs.Channel.{Channel, side, samples_in}
 use Rattle.rfc6386.proofs.Laws.Tests.{or-false}
@@ -26,7 +27,7 @@ use Rattle.rfc6386.specs.declared.Mv.{Mv}
 use Rattle.rfc6386.specs.declared.FilterSet.{FilterSet}
 use Rattle.rfc6386.specs.declared.Sizes.{Sizes}
 use Rattle.rfc6386.specs.declared.ReconstructedMb.{ReconstructedMb}
-use Rattle.rfc6386.specs.declared.Prediction.{Prediction}
+use Rattle.rfc6386.specs.Answer.{Prediction}
 use Rattle.frame.specs.declared.Strides.{Strides}
 
 -- ---- orders
@@ -53,6 +54,14 @@ pub good_more : (orders : List ℕ) (n : ℕ) → any_bad orders n ≡ false →
 unfolding any_bad
 good_more orders n e f = ap (any_bad orders) (add-one n) ∙ ap₂ ◌||◌ e f
 
+-- where none is bad, each is good
+pub good_at : (orders : List ℕ) (n k : ℕ) → any_bad orders n ≡ false → k < n → bad_order orders k ≡ false
+good_at orders n k e h = at (bad_order orders k) refl
+  where
+    at : (b : Bool) → bad_order orders k ≡ b → b ≡ false
+    at false f = refl
+    at true f = sym (bad_found orders n k h f) ∙ e
+
 -- number 9, by what was found
 module _ (orders : List ℕ) (n : ℕ) where
   pub orders_other : (length orders ≡ 66 * n → ⊥) → 9 ≡ orders_refusal orders n
@@ -63,13 +72,19 @@ module _ (orders : List ℕ) (n : ℕ) where
   unfolding orders_refusal
   orders_told h b e = ap (λ (b : Bool). cond b 9 0) e ∙ sym (ap (λ (b : Bool). cond (not b || any_bad orders n) 9 0) (eq-eqb (length orders) (66 * n) h))
 
-pub orders_count : (orders : List ℕ) (n : ℕ) → orders_refusal orders n ≡ 0 → length orders ≡ 66 * n
-unfolding orders_refusal
-orders_count orders n e = at (eqb (length orders) (66 * n)) refl e
-  where
-    at : (b : Bool) → eqb (length orders) (66 * n) ≡ b → ◌≡◌ {A = ℕ} (cond (not b || any_bad orders n) 9 0) 0 → length orders ≡ 66 * n
-    at true t e = eqb-true (length orders) (66 * n) t
-    at false t e = absurd (omega arith)
+module _ (orders : List ℕ) (n : ℕ) (e : orders_refusal orders n ≡ 0) where
+  all_good : (a b : Bool) → ◌≡◌ {A = ℕ} (cond (not a || b) 9 0) 0 → (a ≡ true) × (b ≡ false)
+  all_good true false h = (refl, refl)
+  all_good true true h = absurd (omega arith)
+  all_good false b h = absurd (omega arith)
+
+  pub orders_count : length orders ≡ 66 * n
+  unfolding orders_refusal
+  orders_count = eqb-true (length orders) (66 * n) (all_good (eqb (length orders) (66 * n)) (any_bad orders n) e).0
+
+  pub orders_good : any_bad orders n ≡ false
+  unfolding orders_refusal
+  orders_good = (all_good (eqb (length orders) (66 * n)) (any_bad orders n) e).1
 
 -- the first vector stands in the four bytes after the codes
 pub first-is : (orders : List ℕ) (k : ℕ) → 66 * k + 66 ≤ length orders

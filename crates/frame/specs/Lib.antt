@@ -2,6 +2,7 @@
 -- What a reader has to believe
 pub mod Frame
 -- What the functions inside this crate promise one another
+pub mod Codes
 pub mod Inner
 -- What is proved of the definition: laws, what a call leaves, and demand 3
 pub mod Laws

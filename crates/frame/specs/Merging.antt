@@ -12,7 +12,8 @@ use Rattle.std.proofs.Math.Dec.{ltb, eqb}
 use Rattle.std.proofs.Math.ListN.{get_or, get_or-eq_default}
 use Rattle.std.proofs.lemmas.Bool.{eqb-false}
 use Rattle.std.specs.Int.{w16}
-use Rattle.rfc6386.specs.Vector.{Lowering, mergeable}
+use Rattle.rfc6386.specs.Vector.{mergeable}
+use Rattle.rfc6386.specs.declared.Lowering.{Lowering}
 use Rattle.rfc6386.specs.Refusal.{or_else, if_done}
 use Rattle.rfc6386.specs.Raster.{within}
 use Rattle.rfc6386.specs.Macroblock.{refusal, answered, whole, split}
@@ -31,7 +32,7 @@ use Rattle.frame.specs.Laws.{three_refusals, orders_count, order_in}
 use Rattle.frame.specs.Theorems.{frame_macroblock}
 use Rattle.rfc6386.specs.declared.Mv.{Mv}
 use Rattle.rfc6386.specs.declared.FilterSet.{FilterSet}
-use Rattle.rfc6386.specs.declared.Prediction.{Prediction}
+use Rattle.rfc6386.specs.Answer.{Prediction}
 use Rattle.frame.specs.declared.Strides.{Strides}
 
 -- ---- orders in which one is another

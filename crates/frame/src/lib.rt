@@ -3,7 +3,9 @@
 
 mod macroblocks;
 mod numbered;
+mod order;
 mod orders;
+mod pictures;
 mod predict;
 
 pub use predict::predict_frame;

@@ -1,59 +1,53 @@
 // One macroblock of a frame: predicted by its order, and put in its place.
-ghost use Rattle.std.specs.Prelude.{◌≡◌, ◌+◌, ◌*◌, ◌<◌, ◌≤◌, length, get_or};
-ghost use Rattle.rfc6386.specs.Vector.{lowering_of};
+ghost use Rattle.std.specs.Prelude.{◌≡◌, ◌+◌, ◌*◌, ◌<◌, ◌≤◌, false, length, get_or};
 ghost use Rattle.rfc6386.specs.Raster.{written};
-ghost use Rattle.rfc6386.specs.Macroblock.{lent, refusal};
+ghost use Rattle.rfc6386.specs.Macroblock.{refusal};
 ghost use Rattle.steps.specs.Rows.{Room};
 ghost use Rattle.outputs.specs.Output.{flat};
-ghost use Rattle.frame.specs.Frame.{named, kind_code, vectors_at, single};
+ghost use Rattle.frame.specs.Frame.{reference, reference_code, bad_order, prediction_at};
+ghost use Rattle.frame.specs.Inner.{references_in, asked_in};
 
-use crate::orders::first_vector;
-use crate::{Frame, Strides};
+use crate::Strides;
+use crate::order::Order;
+use crate::orders::Kind;
+use crate::pictures::{Picture, Task};
+use motion_vectors::lowering_of;
 use outputs::{quarters_into, whole_into};
 use steps::rect::{Spot, Window, copy_rect};
-use vector_bytes::mvs_of_bytes;
 
-// The plane that a code names.
-pub fn named<'a>(code: u8, last: &'a [u8], golden: &'a [u8], altref: &'a [u8]) -> &'a [u8]
-    ensures { result.now ≡ named code last.now golden.now altref.now }
-{
-    if code == 0 {
-        return last;
-    }
-    if code == 1 {
-        return golden;
-    }
-    altref
-}
-
-// The samples of the macroblock at column col, row row by order k, one after the other.
-pub fn order_into(
-    y: &[u8],
-    u: &[u8],
-    v: &[u8],
-    frame: Frame,
-    orders: &[u8],
-    k: usize,
-    col: usize,
-    row: usize,
-    mb: &mut [u8],
-)
-    requires row_value { refusal (lent y.now u.now v.now frame.sizes) col row ≡ 0 }
-    requires k_in_bounds { 66 * k + 66 ≤ length orders.now }
+// The samples of the macroblock at column col, row row by its order, one after the other.
+// They go to a slice whose length is asked: what fills it takes any output that C lends.
+pub fn order_into(task: Task<'_>, col: usize, row: usize, mb: &mut [u8])
+    requires order_lies { 66 * (row * task.frame.sizes.mb_cols + col) + 66 ≤ length task.orders.now }
+    requires good { bad_order task.orders.now (row * task.frame.sizes.mb_cols + col) ≡ false }
+    requires row_value { refusal (reference (references_in task.frame.sizes task.pictures) (reference_code task.orders.now (row * task.frame.sizes.mb_cols + col))) col row ≡ 0 }
     requires mb_len { length mb.old ≡ 384 }
-    ensures { mb.new ≡ flat (single frame.set (lowering_of frame.full_pixel) (lent y.now u.now v.now frame.sizes) (kind_code orders.now k) col row (vectors_at orders.now k)).samples }
+    ensures { mb.new ≡ flat (prediction_at (asked_in task.entry) col row).samples }
 {
+    let frame = task.frame;
     let sizes = frame.sizes;
     let set = frame.set;
-    let lower = frame.full_pixel;
-    let at = 66 * k;
-    if orders[at + 1] == 0 {
-        let mv = first_vector(orders, k);
-        whole_into(y, u, v, sizes, col, row, mv, lower, lower, set, 0, mb);
-        return;
+    let order = Order {
+        orders: task.orders,
+        k: row * sizes.mb_cols + col,
+    };
+    let Ok(codes) = order.codes() else {
+        unreachable!()
+    };
+    let Picture { y, u, v } = task.pictures.named(codes.named);
+    // nothing is refused here: what the calls tell beside the samples is not asked for
+    match codes.kind {
+        Kind::Whole => {
+            let mv = order.first_vector();
+            let lowering = lowering_of(frame.full_pixel);
+            let _ended = whole_into(y, u, v, sizes, col, row, mv, lowering, set, Ok(()), mb);
+        }
+        Kind::Split => {
+            let mvs = order.vectors();
+            let lower = frame.full_pixel;
+            let _ended = quarters_into(y, u, v, sizes, col, row, mvs, lower, set, Ok(()), mb);
+        }
     }
-    let mvs = mvs_of_bytes(&orders[at + 2..at + 66]);
-    quarters_into(y, u, v, sizes, col, row, mvs, lower, set, 0, mb);
 }
 
 // Such samples, written to their rows.

@@ -1,58 +1,83 @@
-// Orders: 66 bytes a macroblock, in raster order. The first names the reference, the second says whether the macroblock is whole or split, and
-// the rest are sixteen vectors.
-ghost use Rattle.std.specs.Prelude.{◌≡◌, ◌+◌, ◌*◌, ◌≤◌, length};
+// What orders say, and number 9.
+ghost use Rattle.std.specs.Prelude.{◌≡◌, ◌≤◌};
+ghost use Rattle.numbers.specs.Outcome.{told};
 ghost use Rattle.rfc6386.specs.Vector.{sent};
-ghost use Rattle.frame.specs.Frame.{vectors_at, bad_order, any_bad, orders_refusal};
+ghost use Rattle.frame.specs.Frame.{vectors_at, orders_refusal};
+ghost use Rattle.frame.specs.Codes.{kind_of, codes_at};
 
-use numbers::ORDERS;
+use crate::order::Order;
+use crate::pictures::Named;
+use numbers::Refusal;
 use rfc6386::Mv;
-use vector_bytes::read_i16;
+use vector_bytes::{mvs_of_bytes, read_i16};
 
-fn bad_order(orders: &[u8], k: usize) -> bool
-    requires { 66 * k + 66 ≤ length orders.now }
-    ensures { result ≡ bad_order orders.now k }
-{
-    let at = 66 * k;
-    2 < orders[at] || 1 < orders[at + 1]
+// A macroblock of one vector, or of sixteen.
+#[derive(Clone, Copy, Debug, PartialEq, Eq)]
+pub enum Kind {
+    Whole,
+    Split,
 }
 
-// One of n orders is bad.
-fn any_bad(orders: &[u8], n: usize) -> bool
-    requires { length orders.now ≡ 66 * n }
-    ensures { result ≡ any_bad orders.now n }
-{
-    let mut k: usize = 0;
-    while k < n {
-        if bad_order(orders, k) {
-            return true;
+impl TryFrom<u8> for Kind {
+    type Error = Refusal;
+
+    ghost try_from_gives = { λ code kind. kind ≡ kind_of code };
+
+    fn try_from(code: u8) -> Result<Kind, Refusal> {
+        match code {
+            0 => Ok(Kind::Whole),
+            1 => Ok(Kind::Split),
+            _ => Err(Refusal::Orders),
         }
-        k += 1;
     }
-    false
+}
+
+// The two codes of an order.
+#[derive(Clone, Copy, Debug, PartialEq, Eq)]
+pub struct Codes {
+    pub named: Named,
+    pub kind: Kind,
+}
+
+impl<'a> Order<'a> {
+    pub fn codes(self) -> Result<Codes, Refusal>
+        ensures { result ≡ codes_at self.entry.orders.now self.entry.k }
+    {
+        let at = 66 * self.k;
+        let named = Named::try_from(self.orders[at])?;
+        let kind = Kind::try_from(self.orders[at + 1])?;
+        Ok(Codes { named, kind })
+    }
+
+    // A whole macroblock has no other vector.
+    pub fn first_vector(self) -> Mv
+        ensures { result ≡ sent (vectors_at self.entry.orders.now self.entry.k) 0 }
+    {
+        let at = 66 * self.k;
+        Mv {
+            row: read_i16(self.orders[at + 2], self.orders[at + 3]),
+            col: read_i16(self.orders[at + 4], self.orders[at + 5]),
+        }
+    }
+
+    pub fn vectors(self) -> [Mv; 16]
+        ensures { result ≡ vectors_at self.entry.orders.now self.entry.k }
+    {
+        let at = 66 * self.k;
+        mvs_of_bytes(&self.orders[at + 2..at + 66])
+    }
 }
 
 // Number 9, for n macroblocks.
-pub fn orders_refusal(orders: &[u8], n: usize) -> u32
+pub fn orders_refusal(orders: &[u8], n: usize) -> Result<(), Refusal>
     requires { n ≤ 1048576 }
-    ensures { result ≡ orders_refusal orders.now n }
+    ensures { told result ≡ orders_refusal orders.now n }
 {
     if orders.len() != 66 * n {
-        return ORDERS;
+        return Err(Refusal::Orders);
     }
-    if any_bad(orders, n) {
-        return ORDERS;
+    for k in 0..n {
+        Order { orders, k }.codes()?;
     }
-    0
-}
-
-// The first vector of an order: a whole macroblock has no other.
-pub fn first_vector(orders: &[u8], k: usize) -> Mv
-    requires { 66 * k + 66 ≤ length orders.now }
-    ensures { result ≡ sent (vectors_at orders.now k) 0 }
-{
-    let at = 66 * k;
-    Mv {
-        row: read_i16(orders[at + 2], orders[at + 3]),
-        col: read_i16(orders[at + 4], orders[at + 5]),
-    }
+    Ok(())
 }

@@ -8,6 +8,7 @@ use native.Mathlib.Numerals.{add-one}
 use lib.ListN.{length, get_or, take, drop, set, length-drop}
 use lib.Seq.{paste, paste-suc, take-append-le, drop-append-le, length-take-le, take_at, drop-append-add, drop-drop, take-add, get_or-drop}
 use lib.Dec.{ltb}
+use Rattle.std.proofs.Common.{Some, None}
 use borrow.Author.Tests.{leb-true, ltb-true, ltb-false}
 use Rattle.ivf.specs.Format.{frame_length, complete, frames_from, bytes4, count_in}
 use Rattle.ivf.specs.Mending.{total, frame_count, kept, counted, mended, not_ivf, no_room, Mends}
@@ -21,12 +22,20 @@ pub record Completes (file : List ℕ) (at n : ℕ) : Type 0 where
   pub inside : at + n ≤ length file
   pub whole : complete file at ≡ true
 
-pub completes : (file : List ℕ) (at n : ℕ) → n ≡ complete_length file at → (n ≡ 0 → ⊥) → Completes file at n
-completes file at n e some = go (complete file at) refl e
+pub completes : (file : List ℕ) (at n : ℕ) → Some n ≡ complete_length file at → Completes file at n
+completes file at n e = go (complete file at) refl e
   where
-    go : (b : Bool) → complete file at ≡ b → n ≡ cond b (frame_length file at) 0 → Completes file at n
-    go true t q = record { is = q; inside = omega (arith, leb-true (at + frame_length file at) (length file) t); whole = t }
-    go false t q = absurd (some q)
+    go : (b : Bool) → complete file at ≡ b → Some n ≡ cond b (Some (frame_length file at)) None → Completes file at n
+    go true t q = let is : n ≡ frame_length file at = cc in record { is = is; inside = omega (arith, leb-true (at + frame_length file at) (length file) t); whole = t }
+    go false t q = cc
+
+-- no frame is complete
+pub lacks : (file : List ℕ) (at : ℕ) → None ≡ complete_length file at → complete file at ≡ false
+lacks file at e = go (complete file at) refl e
+  where
+    go : (b : Bool) → complete file at ≡ b → None ≡ cond b (Some (frame_length file at)) None → complete file at ≡ false
+    go true t q = cc
+    go false t q = t
 
 -- ---- the frames that are passed
 pub passed_none : (file : List ℕ) → 32 ≤ length file → Passed file 32 0

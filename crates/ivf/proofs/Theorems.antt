@@ -9,10 +9,9 @@ use native.Mathlib.Omega.{arith}
 use Rattle.std.proofs.Math.ListN.{length, drop}
 use Rattle.std.proofs.Math.Seq.{take-length, get_or-take}
 use Rattle.ivf.specs.Format.{number4, bytes4, frame_length, complete, frames, frames_from, file_frames, count_bytes, count_in}
-use Rattle.ivf.specs.Mending.{total, frame_count, kept, counted, mended, not_ivf, no_room, refused, reported, Mends}
+use Rattle.ivf.specs.Mending.{total, frame_count, kept, counted, mended, not_ivf, no_room, MendedAnswer, refused, reported, Mends}
 use Rattle.ivf.proofs.Definitions.{Kept, frames_follow, bounds_agree, kept_lies, frames_same, sized, ivf_same, mends}
 use Rattle.ivf.proofs.Counts.{length-counted, counted_else, counted_number, counted_twice, counted_same, count_bytes_lem}
-use Rattle.ivf.specs.declared.Mended.{Mended}
 
 -- ---- the frames
 -- THEOREM. An empty frame is complete where its size and its time are there.
@@ -146,39 +145,39 @@ whole-mended file all right =
 
 -- ---- a call's outcome
 -- THEOREM. Two outcomes that meet the contract have the same report and the same final bytes.
-pub one_outcome : {file out : List ℕ} {r r' : Mended} {out' out'' : List ℕ} → Mends file out r out' → Mends file out r' out'' → (r ≡ r') × (out' ≡ out'')
+pub one_outcome : {file out : List ℕ} {r r' : MendedAnswer} {out' out'' : List ℕ} → Mends file out r out' → Mends file out r' out'' → (r ≡ r') × (out' ≡ out'')
 one_outcome a b = (a.report_is ∙ sym b.report_is, a.bytes_are ∙ sym b.bytes_are)
 
 -- a report of n frames with nothing dropped, and the count right before
-abbrev pub untouched : ℕ → Mended
+abbrev pub untouched : ℕ → MendedAnswer
 untouched n = record { number = 0; old_count = n; new_count = n; dropped = 0 }
 
 -- what a call that does not refuse leaves
-pub record Done (file out : List ℕ) (r : Mended) (out' : List ℕ) : Type 0 where
+pub record Done (file out : List ℕ) (r : MendedAnswer) (out' : List ℕ) : Type 0 where
   pub ivf : not_ivf file ≡ false
   pub fits : kept file ≤ length out
   pub report_is : r ≡ reported file
   pub bytes_are : out' ≡ mended file ++ drop (kept file) out
 
-module _ {file out : List ℕ} {r : Mended} {out' : List ℕ} (w : Mends file out r out') where
+module _ {file out : List ℕ} {r : MendedAnswer} {out' : List ℕ} (w : Mends file out r out') where
   -- THEOREM. A call that refuses reports three zeros and writes nothing.
   pub refusal_leaves : (r.number ≡ 0 → ⊥) → (r ≡ refused r.number) × (out' ≡ out)
   refusal_leaves some = go (not_ivf file) refl (no_room file (length out)) refl
     where
       told : (n : ℕ) → r ≡ refused n → r ≡ refused r.number
-      told n e = e ∙ ap refused (sym (ap (λ (m : Mended). m.number) e))
+      told n e = e ∙ ap refused (sym (ap (λ (m : MendedAnswer). m.number) e))
 
       go : (a : Bool) → not_ivf file ≡ a → (b : Bool) → no_room file (length out) ≡ b → (r ≡ refused r.number) × (out' ≡ out)
       go true p b q = let e = one_outcome w (mends file out true b p q) in (told 15 e.0, e.1)
       go false p true q = let e = one_outcome w (mends file out false true p q) in (told 7 e.0, e.1)
-      go false p false q = absurd (some (ap (λ (m : Mended). m.number) (one_outcome w (mends file out false false p q)).0))
+      go false p false q = absurd (some (ap (λ (m : MendedAnswer). m.number) (one_outcome w (mends file out false false p q)).0))
 
   pub done : r.number ≡ 0 → Done file out r out'
   unfolding no_room
   done z = go (not_ivf file) refl (no_room file (length out)) refl
     where
       not-refused : (n : ℕ) → r ≡ refused (suc n) → ⊥
-      not-refused n e = let k : r.number ≡ suc n = ap (λ (m : Mended). m.number) e in omega arith
+      not-refused n e = let k : r.number ≡ suc n = ap (λ (m : MendedAnswer). m.number) e in omega arith
 
       go : (a : Bool) → not_ivf file ≡ a → (b : Bool) → no_room file (length out) ≡ b → Done file out r out'
       go true p b q = absurd (not-refused 14 (one_outcome w (mends file out true b p q)).0)
@@ -188,10 +187,10 @@ module _ {file out : List ℕ} {r : Mended} {out' : List ℕ} (w : Mends file ou
           record { ivf = p; fits = ltb-false (length out) (kept file) q; report_is = e.0; bytes_are = e.1 }
 
 -- of a call that is done
-module _ {file out : List ℕ} {r : Mended} {out' : List ℕ} (d : Done file out r out') where
+module _ {file out : List ℕ} {r : MendedAnswer} {out' : List ℕ} (d : Done file out r out') where
   -- THEOREM. It has kept the file less what it reports as dropped.
   pub kept-told : kept file + r.dropped ≡ length file
-  kept-told = ap (λ (m : Mended). kept file + m.dropped) d.report_is ∙ kept_and_dropped file d.ivf
+  kept-told = ap (λ (m : MendedAnswer). kept file + m.dropped) d.report_is ∙ kept_and_dropped file d.ivf
 
   -- THEOREM. The mended file stands at the front of the output,
   pub front-mended : take (kept file) out' ≡ mended file
@@ -203,10 +202,10 @@ module _ {file out : List ℕ} {r : Mended} {out' : List ℕ} (d : Done file out
 
   -- THEOREM. The new count is the number of frames in the output.
   pub count-told : r.new_count ≡ frame_count (take (kept file) out')
-  count-told = ap (λ (m : Mended). m.new_count) d.report_is ∙ sym (count_again file d.ivf) ∙ sym (ap frame_count front-mended)
+  count-told = ap (λ (m : MendedAnswer). m.new_count) d.report_is ∙ sym (count_again file d.ivf) ∙ sym (ap frame_count front-mended)
 
   -- THEOREM. What it wrote, a second call with room for it takes, changes nothing of and drops nothing of: the count is old and new.
-  pub mend_again : {to : List ℕ} {r' : Mended} {to' : List ℕ} → kept file ≤ length to → Mends (take (kept file) out') to r' to'
+  pub mend_again : {to : List ℕ} {r' : MendedAnswer} {to' : List ℕ} → kept file ≤ length to → Mends (take (kept file) out') to r' to'
       → (r' ≡ untouched r.new_count) × (to' ≡ take (kept file) out' ++ drop (kept file) to)
   unfolding no_room
   mend_again {to} {r'} {to'} h again =

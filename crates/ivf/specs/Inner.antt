@@ -1,22 +1,13 @@
 -- What the functions inside this crate promise one another.
-use Rattle.std.specs.Prelude.{◌≡◌, cond, false, List, ◌++◌, ℕ, ◌+◌, ◌*◌, ◌<◌, ◌≤◌, length, take, drop}
-use Rattle.ivf.specs.Format.{number4, frame_length, complete, frames_from}
+use Rattle.std.specs.Prelude.{◌≡◌, cond, false, List, ◌++◌, ℕ, ◌+◌, ◌*◌, ◌<◌, ◌≤◌, length, take, drop, Option, Some, None}
+use Rattle.ivf.specs.Format.{frame_length, complete, frames_from}
 use Rattle.ivf.specs.Mending.{total, frame_count, kept, mended}
 use Rattle.ivf.specs.declared.frames.Frames.{Frames}
 
--- ---- numbers: one in four bytes, and that it fits 32 bits
-pub record Joined (a b c d r : ℕ) : Type 0 where
-  pub is : r ≡ a + 256 * b + 65536 * c + 16777216 * d
-  pub small : r < 4294967296
-
-pub record Read4 (bytes : List ℕ) (i r : ℕ) : Type 0 where
-  pub is : r ≡ number4 bytes i
-  pub small : r < 4294967296
-
 -- ---- frames
--- the length of a frame, or 0 where it is not complete
-abbrev pub complete_length : List ℕ → ℕ → ℕ
-complete_length file at = cond (complete file at) (frame_length file at) 0
+-- the length of a frame, where it is complete
+abbrev pub complete_length : List ℕ → ℕ → Option ℕ
+complete_length file at = cond (complete file at) (Some (frame_length file at)) None
 
 -- a file that is not refused has a header, and stays within the limit
 pub record Sized (file : List ℕ) : Type 0 where

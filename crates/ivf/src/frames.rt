@@ -11,36 +11,35 @@ pub struct Frames {
     pub count: usize,
 }
 
-// The length of the complete frame at byte `at`, or 0.
-fn complete_length(file: &[u8], at: usize) -> usize
+// The length of the complete frame at byte `at`.
+fn complete_length(file: &[u8], at: usize) -> Option<usize>
     requires { at ≤ length file.now }
     ensures { result ≡ complete_length file.now at }
 {
     let left = file.len() - at;
     if left < 12 {
-        return 0;
+        return None;
     }
     let n = 12 + read4(file, at) as usize;
     if left < n {
-        return 0;
+        return None;
     }
-    n
+    Some(n)
 }
 
-// Goes on from `before` frames that end at byte `from`, over the complete frames that begin before byte `stop`.
-pub fn pass(file: &[u8], from: usize, before: usize, stop: usize) -> Frames
-    requires { Passed file.now from before }
-    ensures { Passes file.now from stop result }
+// Goes on from frames that were passed, over the complete frames that begin before byte `stop`.
+// A `while`: each step is as long as the frame says, so that no range gives the places.
+pub fn pass(file: &[u8], passed: Frames, stop: usize) -> Frames
+    requires { Passed file.now passed.end passed.count }
+    ensures { Passes file.now passed.end stop result }
 {
-    let mut end = from;
-    let mut count = before;
-    while end < stop {
-        let n = complete_length(file, end);
-        if n == 0 {
-            return Frames { end, count };
-        }
-        end += n;
-        count += 1;
+    let mut frames = passed;
+    while frames.end < stop {
+        let Some(n) = complete_length(file, frames.end) else {
+            return frames;
+        };
+        frames.end += n;
+        frames.count += 1;
     }
-    Frames { end, count }
+    frames
 }

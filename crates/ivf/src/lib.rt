@@ -6,10 +6,9 @@ mod frames;
 pub mod mend;
 mod output;
 
-// What mending a file reports. The three numbers after the first are 0 where the call refuses.
+// What mending a file reports.
 #[derive(Clone, Copy)]
 pub struct Mended {
-    pub number: u32,
     pub old_count: u64,
     pub new_count: u64,
     pub dropped: u64,

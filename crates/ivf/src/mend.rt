@@ -1,49 +1,31 @@
 // Mending a cut recording.
+// That a file is `Sized` is asked by clauses: a record of it would have to say too that its bytes are bytes, which a proof does not know of a field.
 ghost use Rattle.std.specs.Prelude.{◌≡◌, ◌≤◌, length};
 ghost use Rattle.ivf.specs.Format.{marked};
-ghost use Rattle.ivf.specs.Mending.{not_ivf, no_room, refused, Mends};
+ghost use Rattle.ivf.specs.Mending.{not_ivf, no_room, mended_told, Mends};
 ghost use Rattle.ivf.specs.Inner.{Sized};
 
 use crate::Mended;
 use crate::bytes::{read2, read4};
-use crate::frames::pass;
+use crate::frames::{Frames, pass};
 use crate::output::write_mended;
-use numbers::{RECORDING, ROOM};
+use numbers::Refusal;
 
-// DKIF.
 fn is_marked(file: &[u8]) -> bool
     requires { 4 ≤ length file.now }
     ensures { result ≡ marked file.now }
 {
-    if file[0] != 68 {
-        return false;
-    }
-    if file[1] != 75 {
-        return false;
-    }
-    if file[2] != 73 {
-        return false;
-    }
-    file[3] == 70
+    file.starts_with(b"DKIF")
 }
 
-// Number 15.
+#[tactic(auto, unfolding(crate::specs::Mending::not_ivf))]
 fn not_ivf(file: &[u8]) -> bool
     ensures { result ≡ not_ivf file.now }
 {
-    if file.len() < 32 {
-        return true;
-    }
-    if 2147483647 < file.len() {
-        return true;
-    }
-    if !is_marked(file) {
-        return true;
-    }
-    read2(file, 6) != 32
+    file.len() < 32 || 2147483647 < file.len() || !is_marked(file) || read2(file, 6) != 32
 }
 
-// Number 7. An output as long as the file has room for whatever is kept.
+// An output as long as the file has room for whatever is kept.
 fn no_room(file: &[u8], room: usize) -> bool
     requires { Sized file.now }
     ensures { result ≡ no_room file.now room }
@@ -51,37 +33,23 @@ fn no_room(file: &[u8], room: usize) -> bool
     if file.len() <= room {
         return false;
     }
-    let frames = pass(file, 32, 0, file.len());
+    let frames = pass(file, Frames { end: 32, count: 0 }, file.len());
     room < frames.end
 }
 
-fn refuse(number: u32) -> Mended
-    ensures { result ≡ refused number }
-{
-    Mended {
-        number,
-        old_count: 0,
-        new_count: 0,
-        dropped: 0,
-    }
-}
-
-pub fn mend(file: &[u8], out: &mut [u8]) -> Mended
-    ensures { Mends file.now out.old result out.new }
+pub fn mend(file: &[u8], out: &mut [u8]) -> Result<Mended, Refusal>
+    ensures { Mends file.now out.old (mended_told result) out.new }
 {
     if not_ivf(file) {
-        return refuse(RECORDING);
+        return Err(Refusal::Recording);
     }
     if no_room(file, out.len()) {
-        return refuse(ROOM);
+        return Err(Refusal::Room);
     }
     let frames = write_mended(file, out);
-    let end = frames.end;
-    let count = frames.count;
-    Mended {
-        number: 0,
-        old_count: read4(file, 24),
-        new_count: count as u64,
-        dropped: (file.len() - end) as u64,
-    }
+    Ok(Mended {
+        old_count: u64::from(read4(file, 24)),
+        new_count: frames.count as u64,
+        dropped: (file.len() - frames.end) as u64,
+    })
 }

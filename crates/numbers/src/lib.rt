@@ -1,35 +1,76 @@
-// The numbers by which calls refuse; 0 is done. README says when each is given, and the definitions say exactly.
+// Why a call refuses, and the number that C gets for it, 0 where it does not. README says when each is given, and the definitions say exactly.
 #![tactic(auto)]
 
-// no columns or rows, or too many
-pub const SIZE: u32 = 1;
-// a stride below its plane's width, or too large
-pub const STRIDE: u32 = 2;
-// a plane with too few bytes
-pub const LENGTH: u32 = 3;
-// a position outside the picture
-pub const POSITION: u32 = 4;
-// a fraction or a filter's code that there is not
-pub const CODE: u32 = 5;
-// not sixteen vectors
-pub const VECTORS: u32 = 6;
-// an output that does not fit
-pub const ROOM: u32 = 7;
-// a fraction is left where there should be none
-pub const FRACTION: u32 = 8;
-// orders of another length, or a code in them that there is not; a kind of prediction that there is not
-pub const ORDERS: u32 = 9;
-// a version that is reserved, or cannot be
-pub const VERSION: u32 = 10;
-// a coefficient outside the domain
-pub const DOMAIN: u32 = 11;
-// not the header of a Y4M file
-pub const HEADER: u32 = 12;
-// not the mark of a Y4M frame
-pub const MARK: u32 = 13;
-// a Y4M frame that is cut short
-pub const CUT: u32 = 14;
-// not a recording
-pub const RECORDING: u32 = 15;
-// a running total that would leave 64 bits
-pub const TOTALS: u32 = 16;
+ghost use Rattle.std.specs.Prelude.{◌≡◌};
+ghost use Rattle.numbers.specs.Outcome.{number_of, told};
+
+#[derive(Clone, Copy, Debug, PartialEq, Eq)]
+pub enum Refusal {
+    // no columns or rows, or too many
+    Size,
+    // a stride below its plane's width, or too large
+    Stride,
+    // a plane with too few bytes
+    Length,
+    // a position outside the picture
+    Position,
+    // a fraction or a filter's code that there is not
+    Code,
+    // not sixteen vectors
+    Vectors,
+    // an output that does not fit
+    Room,
+    // a fraction is left where there should be none
+    Fraction,
+    // orders of another length, or a code in them that there is not; a kind of prediction that there is not
+    Orders,
+    // a version that is reserved, or cannot be
+    Version,
+    // a coefficient outside the domain
+    Domain,
+    // not the header of a Y4M file
+    Header,
+    // not the mark of a Y4M frame
+    Mark,
+    // a Y4M frame that is cut short
+    Cut,
+    // not a recording
+    Recording,
+    // a running total that would leave 64 bits
+    Totals,
+}
+
+impl From<Refusal> for u32 {
+    ghost from_gives = { λ refusal number. number ≡ number_of refusal };
+
+    fn from(refusal: Refusal) -> u32 {
+        match refusal {
+            Refusal::Size => 1,
+            Refusal::Stride => 2,
+            Refusal::Length => 3,
+            Refusal::Position => 4,
+            Refusal::Code => 5,
+            Refusal::Vectors => 6,
+            Refusal::Room => 7,
+            Refusal::Fraction => 8,
+            Refusal::Orders => 9,
+            Refusal::Version => 10,
+            Refusal::Domain => 11,
+            Refusal::Header => 12,
+            Refusal::Mark => 13,
+            Refusal::Cut => 14,
+            Refusal::Recording => 15,
+            Refusal::Totals => 16,
+        }
+    }
+}
+
+// The number of a call that gives back nothing more.
+pub fn number(done: Result<(), Refusal>) -> u32
+    ensures { result ≡ told done }
+{
+    match done {
+        Ok(()) => 0,
+        Err(refusal) => u32::from(refusal),
+    }
+}

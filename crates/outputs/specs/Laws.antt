@@ -1,22 +1,21 @@
 -- How a call with a lent output ends, and how many samples a prediction has. Assumes nothing.
 use Rattle.std.specs.Prelude.{◌≡◌, refl, Bool, true, false, cond, List, ℕ, zero, suc, ◌*◌, eqb, length}
 use Rattle.std.proofs.Common.{sym, ◌∙◌, subst, arith, eqb-true}
-use Rattle.rfc6386.specs.Vector.{Lowering, luma_vector, chroma_vector}
+use Rattle.rfc6386.specs.Vector.{luma_vector, chroma_vector}
+use Rattle.rfc6386.specs.declared.Lowering.{Lowering}
 use Rattle.rfc6386.specs.Picture.{image, block_by}
 use Rattle.rfc6386.specs.Clips.{no_clips}
 use Rattle.rfc6386.specs.Refusal.{or_else, if_done, room_refusal}
-use Rattle.rfc6386.specs.Macroblock.{Reference, plane_y, plane_u, plane_v, refusal, whole_samples, split_samples, no_samples, answered, whole, split}
+use Rattle.rfc6386.specs.Macroblock.{Reference, plane_y, plane_u, plane_v, refusal, whole_samples, split_samples, answered, whole, split}
+use Rattle.rfc6386.specs.Answer.{no_samples, Prediction, Report}
 use Rattle.rfc6386.proofs.Promises.{one_result}
 use Rattle.rfc6386.proofs.Laws.Raster.{length-raster}
 use Rattle.rfc6386.proofs.Laws.Refusals.{done, refused}
 use Rattle.rfc6386.proofs.Laws.Blocks.{length-block}
-use Rattle.outputs.specs.Output.{flat, call_number, Left, Told}
+use Rattle.outputs.specs.Output.{flat, call_number, Left, EndedAnswer, Told}
 use Rattle.rfc6386.specs.declared.Mv.{Mv}
 use Rattle.rfc6386.specs.declared.FilterSet.{FilterSet}
 use Rattle.rfc6386.specs.declared.ReconstructedMb.{ReconstructedMb}
-use Rattle.rfc6386.specs.declared.Prediction.{Prediction}
-use Rattle.rfc6386.specs.declared.Report.{Report}
-use Rattle.outputs.specs.declared.into.Ended.{Ended}
 
 -- ---- how a call ends
 -- what is left does not depend on what a refused call would have written
@@ -68,14 +67,14 @@ module _ (report : Report) (codes : ℕ) (out : List ℕ) (n : ℕ) (e : n ≡ c
         clips_are = sym (done report.clips no_clips (sym e ∙ z));
       }
 
-pub told_as : {p q : Report} {n m : ℕ} {out out' : List ℕ} {r : Ended} → p ≡ q → n ≡ m → Told p n out r out' → Told q m out r out'
+pub told_as : {p q : Report} {n m : ℕ} {out out' : List ℕ} {r : EndedAnswer} → p ≡ q → n ≡ m → Told p n out r out' → Told q m out r out'
 told_as {out} {out'} {r} e f h = subst (λ (x : Report × ℕ). Told x.0 x.1 out r out') (λ i. (e i, f i)) h
 
 -- ---- THEOREM. No two outcomes meet the contract of a C function: its number, the bytes that it leaves, and what it says was fetched and clipped.
 pub one_outcome : {p : Prediction} {codes : ℕ} {out : List ℕ} {r s : ℕ} {a b : List ℕ} → Left p codes out r a → Left p codes out s b → (r ≡ s) × (a ≡ b)
 one_outcome h k = (one_result h.number_is k.number_is, one_result h.bytes_are k.bytes_are)
 
-pub one_telling : {p : Report} {codes : ℕ} {out : List ℕ} {r s : Ended} {a b : List ℕ} → Told p codes out r a → Told p codes out s b → (r ≡ s) × (a ≡ b)
+pub one_telling : {p : Report} {codes : ℕ} {out : List ℕ} {r s : EndedAnswer} {a b : List ℕ} → Told p codes out r a → Told p codes out s b → (r ≡ s) × (a ≡ b)
 one_telling h k =
     let left = one_outcome h.leaves k.leaves in
     let fetched = one_result h.fetched_is k.fetched_is in

@@ -1,45 +1,42 @@
 // Predictions that end in a lent output.
-ghost use Rattle.std.specs.Prelude.{◌≡◌};
+// The three are a line each before `finish`, and differ in which prediction that is.
+ghost use Rattle.rfc6386.specs.Answer.{report_told};
 ghost use Rattle.rfc6386.specs.Vector.{lowering_of};
 ghost use Rattle.rfc6386.specs.Macroblock.{lent};
 ghost use Rattle.rfc6386.specs.Report.{whole_report, split_report, quarters_report};
-ghost use Rattle.outputs.specs.Output.{Told};
+ghost use Rattle.numbers.specs.Outcome.{told};
+ghost use Rattle.outputs.specs.Output.{Told, ended_told};
 
 use crate::samples::write_samples;
+use numbers::Refusal;
 use prediction::{predict_inter_mb_lowered, predict_split_mv_lowered};
 use quarters::predict_quarters;
-use refusals::{or_else, room_refusal};
-use rfc6386::{Clips, FilterSet, Mv, Report, Sizes};
+use refusals::room_refusal;
+use rfc6386::{Clips, FilterSet, Lowering, Mv, Predicted, Sizes};
 
-// What a call says that is lent an output: its number, how many samples it fetched, and how many of its own were clipped.
+// What a call says that is lent an output: how many samples it fetched, and how many of its own were clipped.
 #[derive(Clone, Copy)]
 pub struct Ended {
-    pub number: u32,
     pub fetched: u64,
     pub clips: Clips,
 }
 
-// Ends a call. `codes` is the number that its codes get.
-fn finish(report: Report, codes: u32, out: &mut [u8]) -> Ended
-    ensures { Told report codes out.old result out.new }
+// Ends a call.
+fn finish(
+    report: Result<Predicted, Refusal>,
+    codes: Result<(), Refusal>,
+    out: &mut [u8],
+) -> Result<Ended, Refusal>
+    ensures { Told (report_told report) (told codes) out.old (ended_told result) out.new }
 {
-    let own = report.prediction.number;
-    let n = or_else(own, or_else(codes, room_refusal(out.len())));
-    if n != 0 {
-        return Ended {
-            number: n,
-            fetched: 0,
-            clips: Clips { low: 0, high: 0 },
-        };
-    }
-    let samples = report.prediction.samples;
-    let clips = report.clips;
-    write_samples(out, samples);
-    Ended {
-        number: 0,
-        fetched: report.fetched,
-        clips,
-    }
+    let predicted = report?;
+    codes?;
+    room_refusal(out.len())?;
+    write_samples(out, predicted.samples);
+    Ok(Ended {
+        fetched: predicted.fetched,
+        clips: predicted.clips,
+    })
 }
 
 // Whole prediction.
@@ -51,26 +48,14 @@ pub fn whole_into(
     mb_col: usize,
     mb_row: usize,
     mv: Mv,
-    lower_luma: bool,
-    lower_chroma: bool,
+    lowering: Lowering,
     set: FilterSet,
-    codes: u32,
+    codes: Result<(), Refusal>,
     out: &mut [u8],
-) -> Ended
-    ensures { Told (whole_report set (record { luma = lower_luma; chroma = lower_chroma }) (lent y.now u.now v.now sizes) mb_col mb_row mv) codes out.old result out.new }
+) -> Result<Ended, Refusal>
+    ensures { Told (whole_report set lowering (lent y.now u.now v.now sizes) mb_col mb_row mv) (told codes) out.old (ended_told result) out.new }
 {
-    let report = predict_inter_mb_lowered(
-        y,
-        u,
-        v,
-        sizes,
-        mb_col,
-        mb_row,
-        mv,
-        lower_luma,
-        lower_chroma,
-        set,
-    );
+    let report = predict_inter_mb_lowered(y, u, v, sizes, mb_col, mb_row, mv, lowering, set);
     finish(report, codes, out)
 }
 
@@ -83,26 +68,14 @@ pub fn split_into(
     mb_col: usize,
     mb_row: usize,
     mvs: [Mv; 16],
-    lower_luma: bool,
-    lower_chroma: bool,
+    lowering: Lowering,
     set: FilterSet,
-    codes: u32,
+    codes: Result<(), Refusal>,
     out: &mut [u8],
-) -> Ended
-    ensures { Told (split_report set (record { luma = lower_luma; chroma = lower_chroma }) (lent y.now u.now v.now sizes) mb_col mb_row mvs) codes out.old result out.new }
+) -> Result<Ended, Refusal>
+    ensures { Told (split_report set lowering (lent y.now u.now v.now sizes) mb_col mb_row mvs) (told codes) out.old (ended_told result) out.new }
 {
-    let report = predict_split_mv_lowered(
-        y,
-        u,
-        v,
-        sizes,
-        mb_col,
-        mb_row,
-        mvs,
-        lower_luma,
-        lower_chroma,
-        set,
-    );
+    let report = predict_split_mv_lowered(y, u, v, sizes, mb_col, mb_row, mvs, lowering, set);
     finish(report, codes, out)
 }
 
@@ -117,10 +90,10 @@ pub fn quarters_into(
     mvs: [Mv; 16],
     full_pixel: bool,
     set: FilterSet,
-    codes: u32,
+    codes: Result<(), Refusal>,
     out: &mut [u8],
-) -> Ended
-    ensures { Told (quarters_report set (lowering_of full_pixel) (lent y.now u.now v.now sizes) mb_col mb_row mvs) codes out.old result out.new }
+) -> Result<Ended, Refusal>
+    ensures { Told (quarters_report set (lowering_of full_pixel) (lent y.now u.now v.now sizes) mb_col mb_row mvs) (told codes) out.old (ended_told result) out.new }
 {
     let report = predict_quarters(y, u, v, sizes, mb_col, mb_row, mvs, full_pixel, set);
     finish(report, codes, out)

@@ -1,6 +1,7 @@
-// A macroblock predicted into a lent output of 384 bytes, which a refused call leaves as it was. `codes` is a number that comes after the
-// prediction's own and before that of the output, 0 where there is none. Every call for C that predicts, a macroblock or a whole frame of them,
-// makes one of these, and so each prediction has one caller in the library, and the compiler inlines it.
+// A macroblock predicted into a lent output of 384 bytes, which a refused call leaves as it was. `codes` is what a call's codes are refused for,
+// if they are: that comes after the prediction's own refusal and before that of the output. Every call for C that predicts, a macroblock or a whole
+// frame of them, makes one of these, and so each prediction has one caller in the library, and the compiler inlines it.
+// The planes, their sizes and the place are parameters of their own, by a rule of the project: the core takes plain slices, as C hands them over.
 #![tactic(auto)]
 
 mod into;

@@ -6,8 +6,7 @@ use Rattle.rfc6386.specs.Fetched.{Coordinate}
 use Rattle.rfc6386.specs.Report.{reported}
 use Rattle.rfc6386.proofs.Laws.Refusals.{done}
 use Rattle.rfc6386.specs.declared.Clips.{Clips}
-use Rattle.rfc6386.specs.declared.Prediction.{Prediction}
-use Rattle.rfc6386.specs.declared.Report.{Report}
+use Rattle.rfc6386.specs.Answer.{Prediction, Report}
 use Rattle.blocks.specs.Taken.{taken}
 use Rattle.blocks.specs.Laws.{taken_fetched, taken_fit, taken_clips}
 

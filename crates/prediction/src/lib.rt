@@ -4,6 +4,9 @@
 
 pub mod predict;
 pub mod split;
+mod squares;
+pub mod standing;
+pub mod standing_chroma;
 mod totals;
 
 // port order 6 and 7
@@ -12,8 +15,8 @@ pub use predict::{
     predict_split_mv, predict_split_mv_lowered,
 };
 
-// number 8 of two vectors, and what is answered with a number alone
-pub use predict::{fraction_left, refused, refused_report};
+// number 8 of two vectors
+pub use predict::fraction_left;
 
 // running totals of clipped samples
 pub use totals::{Totals, add_clipped};

@@ -6,7 +6,8 @@ use Rattle.std.proofs.Math.Bool.{false, cond, not}
 use Rattle.std.proofs.Math.Seq.{ext_get_or}
 use Rattle.rfc6386.specs.Raster.{tab}
 use Rattle.rfc6386.specs.Refusal.{or_else, if_done}
-use Rattle.rfc6386.specs.Macroblock.{no_samples, answered}
+use Rattle.rfc6386.specs.Macroblock.{answered}
+use Rattle.rfc6386.specs.Answer.{no_samples, Prediction}
 use Rattle.rfc6386.proofs.Laws.Raster.{is-tab, length-tab, get_or-tab}
 use Rattle.rfc6386.proofs.Laws.Tests.{or-false}
 use Rattle.residue.specs.Transform.{at, inverse_wht}
@@ -15,7 +16,6 @@ use Rattle.residue.specs.Reconstruction.{finished_unless, whole_finished, split_
 use Rattle.residue.proofs.Refused.{true-not-false, some_none, low_whole, low_split, zero_late, whole_accepted, split_accepted, counted_out, skipped}
 use Rattle.quantisers.specs.Inner.{sixteen, Offered, WholeOffered, SplitOffered}
 use Rattle.rfc6386.specs.declared.ReconstructedMb.{ReconstructedMb}
-use Rattle.rfc6386.specs.declared.Prediction.{Prediction}
 
 -- ---- one number
 pub kept-beyond : (n : ℕ) → n < 32767 → (z : ℤ) → beyond n (sixteen z) ≡ beyond n z

@@ -16,11 +16,11 @@ pub record Part (d d' : List ℤ) (i n : ℕ) (f : ℕ → ℤ) : Type 0 where
   pub before : (j : ℕ) → j < i → at d' j ≡ at d j
   pub after : (j : ℕ) → i + n ≤ j → at d' j ≡ at d j
 
--- d' is d but for the first numbers of so many blocks from i on, which are f's
-pub record Firsts (d d' : List ℤ) (i blocks : ℕ) (f : ℕ → ℤ) : Type 0 where
+-- d' is d but for n numbers from i on, each `step` after the one before, which are f's
+pub record Spaced (d d' : List ℤ) (i step n : ℕ) (f : ℕ → ℤ) : Type 0 where
   pub size : length d' ≡ length d
-  pub done : (b : ℕ) → b < blocks → at d' (i + 16 * b) ≡ f b
-  pub rest : (j : ℕ) → ((b : ℕ) → b < blocks → j ≡ i + 16 * b → ⊥) → at d' j ≡ at d j
+  pub done : (k : ℕ) → k < n → at d' (i + step * k) ≡ f k
+  pub rest : (j : ℕ) → ((k : ℕ) → k < n → j ≡ i + step * k → ⊥) → at d' j ≡ at d j
 
 -- c does for the coefficients p: it is refused where p is, and where it is used it is as good
 pub record Offered (refusal : Bool → List ℤ → ℕ) (used : List ℤ → List ℤ) (skip : Bool) (p c : List ℤ) : Type 0 where

@@ -1,5 +1,5 @@
 // From base index and deltas to the six factors. The tables stand in a local, and a call reads one step of the list that it is lent.
-ghost use Rattle.std.specs.Prelude.{◌≡◌, ◌≤◌, length};
+ghost use Rattle.std.specs.Prelude.{◌≡◌, ◌≤◌};
 ghost use Rattle.quantisers.specs.Factors as defined;
 
 use crate::{Factors, QuantIndices};
@@ -27,41 +27,26 @@ fn index(base: i32, delta: i32) -> usize
     ensures { result ≡ defined.index base delta }
 {
     let i = (base as i64) + (delta as i64);
-    if i < 0 {
-        return 0;
-    }
-    if i > 127 {
-        return 127;
-    }
-    i as usize
+    i.clamp(0, 127) as usize
 }
 
-fn step(steps: &[u16], base: i32, delta: i32) -> u16
-    requires { length steps.now ≡ 128 }
+fn step(steps: &[u16; 128], base: i32, delta: i32) -> u16
     ensures { result ≡ defined.step_at steps.now base delta }
 {
-    let i = index(base, delta);
-    steps[i]
+    steps[index(base, delta)]
 }
 
 fn y2_ac_of(s: u16) -> u16
     requires { s ≤ 284 }
     ensures { result ≡ defined.y2_ac_of s }
 {
-    let scaled = s * 155 / 100;
-    if scaled < 8 {
-        return 8;
-    }
-    scaled
+    (s * 155 / 100).max(8)
 }
 
 fn uv_dc_of(s: u16) -> u16
     ensures { result ≡ defined.uv_dc_of s }
 {
-    if s > 132 {
-        return 132;
-    }
-    s
+    s.min(132)
 }
 
 pub fn factors_of(q: QuantIndices) -> Factors

@@ -1,7 +1,8 @@
 -- Squares of a macroblock's sixteen by sixteen luma samples.
 use Rattle.std.specs.Prelude.{◌≡◌, List, ℕ, ◌+◌, ◌*◌, ◌/◌, ◌%◌, ◌<◌, ◌≤◌, length, get_or, pos}
 use Rattle.rfc6386.specs.Raster.{written}
-use Rattle.rfc6386.specs.Vector.{Lowering, luma_vector, sent}
+use Rattle.rfc6386.specs.Vector.{luma_vector, sent}
+use Rattle.rfc6386.specs.declared.Lowering.{Lowering}
 use Rattle.rfc6386.specs.Picture.{Plane, Image, image}
 use Rattle.rfc6386.specs.Clips.{predicted_clip, totals}
 use Rattle.rfc6386.specs.Macroblock.{subblock}

@@ -1,5 +1,7 @@
 // The three calls from quantised levels. Each makes the coefficients that the levels stand for, and calls the function of that form on them.
+// They are three as the functions that they call are, whose parameters they have.
 ghost use Rattle.std.specs.Prelude.{◌≡◌};
+ghost use Rattle.rfc6386.specs.Answer.{prediction_told};
 ghost use Rattle.rfc6386.specs.Vector.{lowering_of};
 ghost use Rattle.rfc6386.specs.Macroblock.{lent, whole, split, whole_pixel};
 ghost use Rattle.residue.specs.Reconstruction.{whole_finished, split_finished};
@@ -8,8 +10,9 @@ ghost use Rattle.quantisers.specs.Levels.{whole_products, split_products};
 use crate::reconstruct::{
     reconstruct_inter_mb, reconstruct_inter_mb_whole_pixel, reconstruct_split_mv_mb,
 };
+use numbers::Refusal;
 use quantisers::{QuantIndices, split_coefficients, whole_coefficients};
-use rfc6386::{FilterSet, Mv, Prediction, Sizes};
+use rfc6386::{FilterSet, Mv, ReconstructedMb, Sizes};
 
 pub fn reconstruct_inter_mb_whole_pixel_from_levels(
     y: &[u8],
@@ -23,8 +26,8 @@ pub fn reconstruct_inter_mb_whole_pixel_from_levels(
     mb_skip_coeff: bool,
     levels: &[i16],
     indices: QuantIndices,
-) -> Prediction
-    ensures { result ≡ whole_finished mb_skip_coeff (whole_products indices levels.now) (whole_pixel (lowering_of full_pixel) (lent y.now u.now v.now sizes) mb_col mb_row luma_mv) }
+) -> Result<ReconstructedMb, Refusal>
+    ensures { prediction_told result ≡ whole_finished mb_skip_coeff (whole_products indices levels.now) (whole_pixel (lowering_of full_pixel) (lent y.now u.now v.now sizes) mb_col mb_row luma_mv) }
 {
     let mut c = [0i16; 400];
     let n = whole_coefficients(mb_skip_coeff, levels, indices, &mut c);
@@ -55,8 +58,8 @@ pub fn reconstruct_inter_mb_from_levels(
     mb_skip_coeff: bool,
     levels: &[i16],
     indices: QuantIndices,
-) -> Prediction
-    ensures { result ≡ whole_finished mb_skip_coeff (whole_products indices levels.now) (whole set (lowering_of full_pixel) (lent y.now u.now v.now sizes) mb_col mb_row luma_mv) }
+) -> Result<ReconstructedMb, Refusal>
+    ensures { prediction_told result ≡ whole_finished mb_skip_coeff (whole_products indices levels.now) (whole set (lowering_of full_pixel) (lent y.now u.now v.now sizes) mb_col mb_row luma_mv) }
 {
     let mut c = [0i16; 400];
     let n = whole_coefficients(mb_skip_coeff, levels, indices, &mut c);
@@ -88,8 +91,8 @@ pub fn reconstruct_split_mv_mb_from_levels(
     mb_skip_coeff: bool,
     levels: &[i16],
     indices: QuantIndices,
-) -> Prediction
-    ensures { result ≡ split_finished mb_skip_coeff (split_products indices levels.now) (split set (lowering_of full_pixel) (lent y.now u.now v.now sizes) mb_col mb_row split_luma_mvs) }
+) -> Result<ReconstructedMb, Refusal>
+    ensures { prediction_told result ≡ split_finished mb_skip_coeff (split_products indices levels.now) (split set (lowering_of full_pixel) (lent y.now u.now v.now sizes) mb_col mb_row split_luma_mvs) }
 {
     let mut c = [0i16; 384];
     let n = split_coefficients(mb_skip_coeff, levels, indices, &mut c);

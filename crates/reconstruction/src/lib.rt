@@ -1,5 +1,6 @@
 // The decoded macroblock: a prediction of `prediction` with the residue added, on plain slices. The coefficients, or the quantised levels that stand
-// for them, are lent as one list, 400 of them or 384: as `threshowl` takes them from C.
+// for them, are lent as one list, 400 of them or 384: as `threshowl` takes them from C. The planes, their sizes and the place are parameters of
+// their own, by a rule of the project: the core takes plain slices, and `reconstruction_entries` the record that holds them.
 #![tactic(auto)]
 
 mod finish;

@@ -1,12 +1,15 @@
 // The three calls. Each predicts by the function of `prediction` of that form, and finishes.
+// The names are the Rust's, and so are the vectors and flags that they take: hence they are three.
 ghost use Rattle.std.specs.Prelude.{◌≡◌};
+ghost use Rattle.rfc6386.specs.Answer.{prediction_told};
 ghost use Rattle.rfc6386.specs.Vector.{lowering_of};
 ghost use Rattle.rfc6386.specs.Macroblock.{lent, whole, split, whole_pixel};
 ghost use Rattle.residue.specs.Reconstruction.{whole_finished, split_finished};
 
 use crate::finish::{finish_split, finish_whole};
+use numbers::Refusal;
 use prediction::{predict_inter_mb, predict_inter_mb_whole_pixel, predict_split_mv};
-use rfc6386::{FilterSet, Mv, Prediction, Sizes};
+use rfc6386::{FilterSet, Mv, ReconstructedMb, Sizes};
 
 pub fn reconstruct_inter_mb_whole_pixel(
     y: &[u8],
@@ -19,11 +22,11 @@ pub fn reconstruct_inter_mb_whole_pixel(
     full_pixel: bool,
     mb_skip_coeff: bool,
     coefficients: &[i16],
-) -> Prediction
-    ensures { result ≡ whole_finished mb_skip_coeff coefficients.now (whole_pixel (lowering_of full_pixel) (lent y.now u.now v.now sizes) mb_col mb_row luma_mv) }
+) -> Result<ReconstructedMb, Refusal>
+    ensures { prediction_told result ≡ whole_finished mb_skip_coeff coefficients.now (whole_pixel (lowering_of full_pixel) (lent y.now u.now v.now sizes) mb_col mb_row luma_mv) }
 {
     let report = predict_inter_mb_whole_pixel(y, u, v, sizes, mb_col, mb_row, luma_mv, full_pixel);
-    finish_whole(report.prediction, mb_skip_coeff, coefficients)
+    finish_whole(report.map(|p| p.samples), mb_skip_coeff, coefficients)
 }
 
 pub fn reconstruct_inter_mb(
@@ -38,11 +41,11 @@ pub fn reconstruct_inter_mb(
     set: FilterSet,
     mb_skip_coeff: bool,
     coefficients: &[i16],
-) -> Prediction
-    ensures { result ≡ whole_finished mb_skip_coeff coefficients.now (whole set (lowering_of full_pixel) (lent y.now u.now v.now sizes) mb_col mb_row luma_mv) }
+) -> Result<ReconstructedMb, Refusal>
+    ensures { prediction_told result ≡ whole_finished mb_skip_coeff coefficients.now (whole set (lowering_of full_pixel) (lent y.now u.now v.now sizes) mb_col mb_row luma_mv) }
 {
     let report = predict_inter_mb(y, u, v, sizes, mb_col, mb_row, luma_mv, full_pixel, set);
-    finish_whole(report.prediction, mb_skip_coeff, coefficients)
+    finish_whole(report.map(|p| p.samples), mb_skip_coeff, coefficients)
 }
 
 pub fn reconstruct_split_mv_mb(
@@ -57,8 +60,8 @@ pub fn reconstruct_split_mv_mb(
     set: FilterSet,
     mb_skip_coeff: bool,
     coefficients: &[i16],
-) -> Prediction
-    ensures { result ≡ split_finished mb_skip_coeff coefficients.now (split set (lowering_of full_pixel) (lent y.now u.now v.now sizes) mb_col mb_row split_luma_mvs) }
+) -> Result<ReconstructedMb, Refusal>
+    ensures { prediction_told result ≡ split_finished mb_skip_coeff coefficients.now (split set (lowering_of full_pixel) (lent y.now u.now v.now sizes) mb_col mb_row split_luma_mvs) }
 {
     let report = predict_split_mv(
         y,
@@ -71,5 +74,5 @@ pub fn reconstruct_split_mv_mb(
         full_pixel,
         set,
     );
-    finish_split(report.prediction, mb_skip_coeff, coefficients)
+    finish_split(report.map(|p| p.samples), mb_skip_coeff, coefficients)
 }

@@ -1,13 +1,15 @@
 // From quantised levels: each takes the record apart, and calls the function of the same name on plain slices.
 ghost use Rattle.std.specs.Prelude.{◌≡◌};
+ghost use Rattle.rfc6386.specs.Answer.{prediction_told};
 ghost use Rattle.rfc6386.specs.Vector.{lowering_of};
 ghost use Rattle.rfc6386.specs.Macroblock.{lent, whole, split, whole_pixel};
 ghost use Rattle.residue.specs.Reconstruction.{whole_finished, split_finished};
 ghost use Rattle.quantisers.specs.Levels.{whole_products, split_products};
 
 use entries::planes::ReferencePlanes;
+use numbers::Refusal;
 use quantisers::QuantIndices;
-use rfc6386::{FilterSet, Mv, Prediction, Sizes};
+use rfc6386::{FilterSet, Mv, ReconstructedMb};
 
 pub fn reconstruct_inter_mb_whole_pixel_from_levels<'a>(
     reference: ReferencePlanes<'a>,
@@ -18,20 +20,14 @@ pub fn reconstruct_inter_mb_whole_pixel_from_levels<'a>(
     mb_skip_coeff: bool,
     levels: &'a [i16],
     indices: QuantIndices,
-) -> Prediction
-    ensures { result ≡ whole_finished mb_skip_coeff (whole_products indices levels.now) (whole_pixel (lowering_of full_pixel) (lent reference.entry.y.now reference.entry.u.now reference.entry.v.now (record { y_stride = reference.entry.y_stride; u_stride = reference.entry.u_stride; v_stride = reference.entry.v_stride; mb_cols = reference.entry.mb_cols; mb_rows = reference.entry.mb_rows })) mb_col mb_row luma_mv) }
+) -> Result<ReconstructedMb, Refusal>
+    ensures { prediction_told result ≡ whole_finished mb_skip_coeff (whole_products indices levels.now) (whole_pixel (lowering_of full_pixel) (lent reference.entry.y.now reference.entry.u.now reference.entry.v.now (record { y_stride = reference.entry.y_stride; u_stride = reference.entry.u_stride; v_stride = reference.entry.v_stride; mb_cols = reference.entry.mb_cols; mb_rows = reference.entry.mb_rows })) mb_col mb_row luma_mv) }
 {
     reconstruction::reconstruct_inter_mb_whole_pixel_from_levels(
         reference.y,
         reference.u,
         reference.v,
-        Sizes {
-            y_stride: reference.y_stride,
-            u_stride: reference.u_stride,
-            v_stride: reference.v_stride,
-            mb_cols: reference.mb_cols,
-            mb_rows: reference.mb_rows,
-        },
+        reference.sizes(),
         mb_col,
         mb_row,
         luma_mv,
@@ -52,20 +48,14 @@ pub fn reconstruct_inter_mb_from_levels<'a>(
     mb_skip_coeff: bool,
     levels: &'a [i16],
     indices: QuantIndices,
-) -> Prediction
-    ensures { result ≡ whole_finished mb_skip_coeff (whole_products indices levels.now) (whole set (lowering_of full_pixel) (lent reference.entry.y.now reference.entry.u.now reference.entry.v.now (record { y_stride = reference.entry.y_stride; u_stride = reference.entry.u_stride; v_stride = reference.entry.v_stride; mb_cols = reference.entry.mb_cols; mb_rows = reference.entry.mb_rows })) mb_col mb_row luma_mv) }
+) -> Result<ReconstructedMb, Refusal>
+    ensures { prediction_told result ≡ whole_finished mb_skip_coeff (whole_products indices levels.now) (whole set (lowering_of full_pixel) (lent reference.entry.y.now reference.entry.u.now reference.entry.v.now (record { y_stride = reference.entry.y_stride; u_stride = reference.entry.u_stride; v_stride = reference.entry.v_stride; mb_cols = reference.entry.mb_cols; mb_rows = reference.entry.mb_rows })) mb_col mb_row luma_mv) }
 {
     reconstruction::reconstruct_inter_mb_from_levels(
         reference.y,
         reference.u,
         reference.v,
-        Sizes {
-            y_stride: reference.y_stride,
-            u_stride: reference.u_stride,
-            v_stride: reference.v_stride,
-            mb_cols: reference.mb_cols,
-            mb_rows: reference.mb_rows,
-        },
+        reference.sizes(),
         mb_col,
         mb_row,
         luma_mv,
@@ -87,20 +77,14 @@ pub fn reconstruct_split_mv_mb_from_levels<'a>(
     mb_skip_coeff: bool,
     levels: &'a [i16],
     indices: QuantIndices,
-) -> Prediction
-    ensures { result ≡ split_finished mb_skip_coeff (split_products indices levels.now) (split set (lowering_of full_pixel) (lent reference.entry.y.now reference.entry.u.now reference.entry.v.now (record { y_stride = reference.entry.y_stride; u_stride = reference.entry.u_stride; v_stride = reference.entry.v_stride; mb_cols = reference.entry.mb_cols; mb_rows = reference.entry.mb_rows })) mb_col mb_row split_luma_mvs) }
+) -> Result<ReconstructedMb, Refusal>
+    ensures { prediction_told result ≡ split_finished mb_skip_coeff (split_products indices levels.now) (split set (lowering_of full_pixel) (lent reference.entry.y.now reference.entry.u.now reference.entry.v.now (record { y_stride = reference.entry.y_stride; u_stride = reference.entry.u_stride; v_stride = reference.entry.v_stride; mb_cols = reference.entry.mb_cols; mb_rows = reference.entry.mb_rows })) mb_col mb_row split_luma_mvs) }
 {
     reconstruction::reconstruct_split_mv_mb_from_levels(
         reference.y,
         reference.u,
         reference.v,
-        Sizes {
-            y_stride: reference.y_stride,
-            u_stride: reference.u_stride,
-            v_stride: reference.v_stride,
-            mb_cols: reference.mb_cols,
-            mb_rows: reference.mb_rows,
-        },
+        reference.sizes(),
         mb_col,
         mb_row,
         split_luma_mvs,

@@ -1,42 +1,34 @@
-// The tests of what comes beside the planes, and how two numbers become one.
+// The tests of what comes beside the planes.
 ghost use Rattle.std.specs.Prelude.{◌≡◌};
-ghost use Rattle.rfc6386.specs.Refusal.{or_else, code_refusal, count_refusal, room_refusal};
+ghost use Rattle.numbers.specs.Outcome.{told};
+ghost use Rattle.rfc6386.specs.Refusal.{code_refusal, count_refusal, room_refusal};
 
-use numbers::{CODE, ROOM, VECTORS};
+use numbers::Refusal;
 
-// The first number, or the second where that is 0.
-pub fn or_else(first: u32, second: u32) -> u32
-    ensures { result ≡ or_else first second }
-{
-    if first != 0 {
-        return first;
-    }
-    second
-}
-
-pub fn code_refusal(filter: u8) -> u32
-    ensures { result ≡ code_refusal filter }
+// A filter's code is a number, as C hands it over.
+pub fn code_refusal(filter: u8) -> Result<(), Refusal>
+    ensures { told result ≡ code_refusal filter }
 {
     if 1 < filter {
-        return CODE;
+        return Err(Refusal::Code);
     }
-    0
+    Ok(())
 }
 
-pub fn count_refusal(due: usize, count: usize) -> u32
-    ensures { result ≡ count_refusal due count }
+pub fn count_refusal(due: usize, count: usize) -> Result<(), Refusal>
+    ensures { told result ≡ count_refusal due count }
 {
     if count == due {
-        return 0;
+        return Ok(());
     }
-    VECTORS
+    Err(Refusal::Vectors)
 }
 
-pub fn room_refusal(room: usize) -> u32
-    ensures { result ≡ room_refusal room }
+pub fn room_refusal(room: usize) -> Result<(), Refusal>
+    ensures { told result ≡ room_refusal room }
 {
     if room == 384 {
-        return 0;
+        return Ok(());
     }
-    ROOM
+    Err(Refusal::Room)
 }

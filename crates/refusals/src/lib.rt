@@ -5,6 +5,6 @@ mod codes;
 mod macroblocks;
 mod planes;
 
-pub use codes::{code_refusal, count_refusal, or_else, room_refusal};
+pub use codes::{code_refusal, count_refusal, room_refusal};
 pub use macroblocks::refusal;
 pub use planes::{no_room, plane_refusal};

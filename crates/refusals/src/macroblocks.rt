@@ -1,12 +1,13 @@
 // The tests of a macroblock: each is made of all planes before the next is made of any.
 ghost use Rattle.std.specs.Prelude.{◌≡◌, ◌||◌, false, ◌*◌, ◌≤◌, leb, length};
+ghost use Rattle.numbers.specs.Outcome.{told};
 ghost use Rattle.rfc6386.specs.Refusal as numbers;
 ghost use Rattle.rfc6386.specs.Refusal.{bad_stride, too_few};
 ghost use Rattle.rfc6386.specs.Refusal.{Sized};
 ghost use Rattle.rfc6386.specs.Macroblock as macroblock;
 
 use crate::planes::{bad_stride, out_of_range, too_few};
-use numbers::{LENGTH, POSITION, SIZE, STRIDE};
+use numbers::Refusal;
 use rfc6386::Sizes;
 
 // ---- a macroblock
@@ -54,21 +55,30 @@ fn length_out(y: usize, u: usize, v: usize, sizes: Sizes) -> bool
     too_few(v, sizes.v_stride, sizes.mb_cols * 8, sizes.mb_rows * 8)
 }
 
-// Numbers 1 to 4 of a call on a macroblock; 0 where none applies.
-pub fn refusal(y: &[u8], u: &[u8], v: &[u8], sizes: Sizes, mb_col: usize, mb_row: usize) -> u32
-    ensures { result ≡ macroblock.refusal (macroblock.lent y.now u.now v.now sizes) mb_col mb_row }
+// Numbers 1 to 4 of a call on a macroblock.
+// The planes, their sizes and the place are parameters of their own, by a rule of the project: the core takes plain slices.
+#[tactic(auto, unfolding(rfc6386::specs::Macroblock::refusal))]
+pub fn refusal(
+    y: &[u8],
+    u: &[u8],
+    v: &[u8],
+    sizes: Sizes,
+    mb_col: usize,
+    mb_row: usize,
+) -> Result<(), Refusal>
+    ensures { told result ≡ macroblock.refusal (macroblock.lent y.now u.now v.now sizes) mb_col mb_row }
 {
     if size_out(sizes) {
-        return SIZE;
+        return Err(Refusal::Size);
     }
     if stride_out(sizes) {
-        return STRIDE;
+        return Err(Refusal::Stride);
     }
     if length_out(y.len(), u.len(), v.len(), sizes) {
-        return LENGTH;
+        return Err(Refusal::Length);
     }
     if place_out(sizes, mb_col, mb_row) {
-        return POSITION;
+        return Err(Refusal::Position);
     }
-    0
+    Ok(())
 }

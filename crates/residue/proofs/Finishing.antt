@@ -1,21 +1,21 @@
 -- What finishing a block, a row of blocks and a plane is made of. Assumes nothing.
 use mathlib.Core.Path.{◌≡◌, refl, sym, ap, ap₂, ◌∙◌, subst}
 use mathlib.Core.List.{List}
-use Prim.Native.Nat.{ℕ, zero, suc, ◌+◌, ◌-◌, ◌*◌, ◌/◌, ◌%◌, ◌<◌, ◌≤◌}
+use Prim.Native.Nat.{ℕ, ◌+◌, ◌-◌, ◌*◌, ◌/◌, ◌%◌, ◌<◌, ◌≤◌}
 use native.Mathlib.Nat.{mul_assoc, add-mul, mul-le-mul_right}
 use native.Mathlib.Omega.{arith}
 use lib.ListN.{get_or}
 use lib.IntN.{ℤ, pos, nat_abs}
 use mir.Syntax.{w16}
 use mir.Val.{SFits}
-use Rattle.signed.specs.Held.{Within, full-range, size-within, add-within, shr-within}
+use Rattle.signed.specs.Held.{Within, add-within, shr-within}
 use Rattle.rfc6386.specs.Filter.{clamp255}
 use Rattle.rfc6386.proofs.Laws.Raster.{get_or-tab}
-use Rattle.residue.specs.Transform.{at, dct, down, along, eighth, transform, inverse_dct, summed}
+use Rattle.residue.specs.Transform.{at, dct, along, eighth, transform, inverse_dct, summed}
 use Rattle.residue.specs.Coefficients.{block, residue_at}
 use Rattle.residue.specs.Inner.{OnlyFirst}
 use Rattle.residue.proofs.ShortPaths.{short-dct}
-use Rattle.residue.proofs.Ranges.{dct_within, within_size}
+use Rattle.residue.proofs.Ranges.{dct_last, within_size}
 use Rattle.residue.specs.Inner.{Bounded, Open, Inside, Area}
 use Rattle.residue.proofs.Areas.{either, area_old, area_join}
 
@@ -34,12 +34,7 @@ module _ {b : List ℤ} (o : OnlyFirst b) where
   at_flat {y} {x} r q m =
       ap (λ (l : List ℤ). at l ((r - y) * 4 + (q - x))) (short-dct b o) ∙ get_or-tab 16 (λ k. eighth 4 (at b 0)) ((r - y) * 4 + (q - x)) (pos 0) (omega (arith, m))
 
-  -- with one number for all its samples
-  pub finished_flat : {d d' : List ℕ} {i w y x : ℕ} {v : ℤ} → v ≡ eighth 4 (at b 0) → Area d d' i w y (y + 4) x (x + 4) (λ r q. summed (get_or d (i + (r * w + q)) 0) v)
-      → Area d d' i w y (y + 4) x (x + 4) (λ r q. summed (get_or d (i + (r * w + q)) 0) (at (inverse_dct b) ((r - y) * 4 + (q - x))))
-  finished_flat {d} {d'} {i} {w} e A = area_as A (λ r q m. ap (summed (get_or d (i + (r * w + q)) 0)) (e ∙ sym (at_flat r q m)))
-
-  -- and left where that is 0
+  -- it is left where its one number is 0
   pub finished_none : {d : List ℕ} {i w y x : ℕ} → pos 0 ≡ eighth 4 (at b 0) → ((j : ℕ) → get_or d j 0 ≤ 255)
       → Area d d i w y (y + 4) x (x + 4) (λ r q. summed (get_or d (i + (r * w + q)) 0) (at (inverse_dct b) ((r - y) * 4 + (q - x))))
   finished_none {d} {i} {w} e byte =
@@ -63,23 +58,12 @@ dct_size {b} f h =
     less : {n : ℕ} → n ≤ 21371 → n ≤ 32512
     less p = omega arith
 
-    low : (j : ℕ) → 1 ≤ j → j < 16 → Within (at b j) 4095 4095
-    low j p m = size-within (h.small j p m)
-
-    top : (j : ℕ) → j < 4 → Within (at b j) 32768 32768
-    top zero m = let r = full-range f in record { up_le = omega (arith, r); dn_le = omega (arith, r) }
-    top (suc j) m = let r = low (suc j) (omega arith) (omega arith) in record { up_le = omega (arith, r); dn_le = omega (arith, r) }
-
-    first : (i j : ℕ) → j < 4 → Within (down dct b i j) 44431 44431
-    first i j m = dct_within i (top j m) (low (4 + j) (omega arith) (omega arith)) (low (8 + j) (omega arith) (omega arith)) (low (12 + j) (omega arith) (omega arith))
-
     four : Within (pos 4) 4 0
     four = omega arith
 
     last : (i j : ℕ) → Within (eighth 4 (along dct b i j)) 21371 21371
     last i j =
-        let w = dct_within j (first i 0 (omega arith)) (first i 1 (omega arith)) (first i 2 (omega arith)) (first i 3 (omega arith)) in
-        let e = shr-within 7 (add-within w four) in
+        let e = shr-within 7 (add-within (dct_last f h i j) four) in
         record { up_le = omega (arith, e); dn_le = omega (arith, e) }
 
 -- and with the full transform
@@ -88,47 +72,48 @@ pub finished_full : (b : List ℤ) {x : List ℤ} {d d' : List ℕ} {i w y q₀ 
     → Area d d' i w y (y + 4) q₀ (q₀ + 4) (λ r q. summed (get_or d (i + (r * w + q)) 0) (at (inverse_dct b) ((r - y) * 4 + (q - q₀))))
 finished_full b {d = d} {i = i} {w} {y} {q₀} e A = area_as A (λ r q m. ap (λ (x : List ℤ). summed (get_or d (i + (r * w + q)) 0) (at x ((r - y) * 4 + (q - q₀)))) e)
 
--- ---- a row of blocks, from row y on, with the coefficients from number n on: its first x columns are finished
+-- ---- a row of blocks, from row y on, with the coefficients from number n on: the first k are finished
 abbrev pub in_row : List ℕ → ℕ → ℕ → ℕ → List ℤ → ℕ → ℕ → ℕ → ℕ
 in_row d i w y c n r q = summed (get_or d (i + (r * w + q)) 0) (at (inverse_dct (block c (n + q / 4 * 16))) ((r - y) * 4 + q % 4))
 
-pub row_more : (c : List ℤ) (i w y n x : ℕ) {d₀ d d' : List ℕ} {b : List ℤ} → Area d₀ d i w y (y + 4) 0 x (in_row d₀ i w y c n) → x % 4 ≡ 0 → x + 4 ≤ w → b ≡ block c (n + 4 * x)
-    → Area d d' i w y (y + 4) x (x + 4) (λ r q. summed (get_or d (i + (r * w + q)) 0) (at (inverse_dct b) ((r - y) * 4 + (q - x))))
-    → Area d₀ d' i w y (y + 4) 0 (x + 4) (in_row d₀ i w y c n)
-row_more c i w y n x {d₀} {d} {d'} {b} A h k e B =
-    area_join A B (omega arith) k (λ r q p s. omega (arith, p, s)) same
+pub row_more : (c : List ℤ) (i w y n k : ℕ) {d₀ d d' : List ℕ} {b : List ℤ} → Area d₀ d i w y (y + 4) 0 (4 * k) (in_row d₀ i w y c n) → 4 * k + 4 ≤ w → b ≡ block c (n + 4 * (4 * k))
+    → Area d d' i w y (y + 4) (4 * k) (4 * k + 4) (λ r q. summed (get_or d (i + (r * w + q)) 0) (at (inverse_dct b) ((r - y) * 4 + (q - 4 * k))))
+    → Area d₀ d' i w y (y + 4) 0 (4 * (k + 1)) (in_row d₀ i w y c n)
+row_more c i w y n k {d₀} {d} {d'} {b} A h e B =
+    area_join A B (omega arith) h (λ r q p s. omega (arith, p, s)) same
     (λ r q p. record { from_row = p.from_row; to_row = p.to_row; from-column = p.from-column; to-column = omega (arith, p) })
-    (λ r q p. record { from_row = p.from_row; to_row = p.to_row; from-column = omega arith; to-column = p.to-column })
+    (λ r q p. record { from_row = p.from_row; to_row = p.to_row; from-column = omega arith; to-column = omega (arith, p) })
     (λ r q P p f g.
-    either q x
+    either q (4 * k)
     (λ l. f (record { from_row = p.from_row; to_row = p.to_row; from-column = p.from-column; to-column = l }))
-    (λ l. g (record { from_row = p.from_row; to_row = p.to_row; from-column = l; to-column = p.to-column })))
+    (λ l. g (record { from_row = p.from_row; to_row = p.to_row; from-column = l; to-column = omega (arith, p) })))
   where
-    same : (r q : ℕ) → Inside y (y + 4) x (x + 4) r q
-        → summed (get_or d (i + (r * w + q)) 0) (at (inverse_dct b) ((r - y) * 4 + (q - x))) ≡ in_row d₀ i w y c n r q
+    same : (r q : ℕ) → Inside y (y + 4) (4 * k) (4 * k + 4) r q
+        → summed (get_or d (i + (r * w + q)) 0) (at (inverse_dct b) ((r - y) * 4 + (q - 4 * k))) ≡ in_row d₀ i w y c n r q
     same r q p =
-        let u : 4 * x ≡ q / 4 * 16 = omega (arith, p) in
-        let v : q - x ≡ q % 4 = omega (arith, p) in
-        ap₂ (λ (s : ℕ) (l : List ℤ). summed s (at (inverse_dct l) ((r - y) * 4 + (q - x)))) (area_old A (omega arith) r q (omega (arith, p)) (λ s. omega (arith, p, s))) e
-        ∙ ap₂ (λ (m k : ℕ). summed (get_or d₀ (i + (r * w + q)) 0) (at (inverse_dct (block c (n + m))) ((r - y) * 4 + k))) u v
+        let u : 4 * (4 * k) ≡ q / 4 * 16 = omega (arith, p) in
+        let v : q - 4 * k ≡ q % 4 = omega (arith, p) in
+        ap₂ (λ (s : ℕ) (l : List ℤ). summed s (at (inverse_dct l) ((r - y) * 4 + (q - 4 * k)))) (area_old A (omega arith) r q (omega (arith, p)) (λ s. omega (arith, p, s))) e
+        ∙ ap₂ (λ (m j : ℕ). summed (get_or d₀ (i + (r * w + q)) 0) (at (inverse_dct (block c (n + m))) ((r - y) * 4 + j))) u v
 
--- ---- a plane: its first y rows are finished
+-- ---- a plane: the first k rows of its blocks are finished
 abbrev pub in_plane : List ℕ → ℕ → ℕ → List ℤ → ℕ → ℕ → ℕ → ℕ
 in_plane d i w c n r q = summed (get_or d (i + (r * w + q)) 0) (residue_at w c n r q)
 
-pub plane_more : (c : List ℤ) (i w n y : ℕ) {d₀ d d' : List ℕ} → Area d₀ d i w 0 y 0 w (in_plane d₀ i w c n) → y % 4 ≡ 0
-    → Area d d' i w y (y + 4) 0 w (in_row d i w y c (n + y * w)) → Area d₀ d' i w 0 (y + 4) 0 w (in_plane d₀ i w c n)
-plane_more c i w n y {d₀} {d} {d'} A h B =
+pub plane_more : (c : List ℤ) (i w n k : ℕ) {d₀ d d' : List ℕ} → Area d₀ d i w 0 (4 * k) 0 w (in_plane d₀ i w c n)
+    → Area d d' i w (4 * k) (4 * k + 4) 0 w (in_row d i w (4 * k) c (n + 4 * k * w)) → Area d₀ d' i w 0 (4 * (k + 1)) 0 w (in_plane d₀ i w c n)
+plane_more c i w n k {d₀} {d} {d'} A B =
     area_join A B (omega arith) (omega arith) (λ r q p s. omega (arith, p, s)) same
     (λ r q p. record { from_row = p.from_row; to_row = omega (arith, p); from-column = p.from-column; to-column = p.to-column })
-    (λ r q p. record { from_row = omega arith; to_row = p.to_row; from-column = p.from-column; to-column = p.to-column })
+    (λ r q p. record { from_row = omega arith; to_row = omega (arith, p); from-column = p.from-column; to-column = p.to-column })
     (λ r q P p f g.
-    either r y
+    either r (4 * k)
     (λ l. f (record { from_row = p.from_row; to_row = l; from-column = p.from-column; to-column = p.to-column }))
-    (λ l. g (record { from_row = l; to_row = p.to_row; from-column = p.from-column; to-column = p.to-column })))
+    (λ l. g (record { from_row = l; to_row = omega (arith, p); from-column = p.from-column; to-column = p.to-column })))
   where
-    same : (r q : ℕ) → Inside y (y + 4) 0 w r q → in_row d i w y c (n + y * w) r q ≡ in_plane d₀ i w c n r q
+    same : (r q : ℕ) → Inside (4 * k) (4 * k + 4) 0 w r q → in_row d i w (4 * k) c (n + 4 * k * w) r q ≡ in_plane d₀ i w c n r q
     same r q p =
+        let y = 4 * k in
         let e : r / 4 * 4 ≡ y = omega (arith, p) in
         let f : r / 4 * (4 * w) ≡ y * w = sym (mul_assoc (r / 4) 4 w) ∙ ap (λ (m : ℕ). m * w) e in
         let u : n + y * w + q / 4 * 16 ≡ n + (r / 4 * (4 * w) + q / 4 * 16) = omega (arith, f) in

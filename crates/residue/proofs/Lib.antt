@@ -8,6 +8,7 @@ pub mod Finishing
 pub mod ShortPaths
 pub mod Ranges
 pub mod Listing
+pub mod Parts
 pub mod Merging
 pub mod Refused
 pub mod Pieces

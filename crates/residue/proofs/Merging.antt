@@ -2,7 +2,8 @@
 -- neither call is refused, a vector inside -16384 .. 16383 given once and given sixteen times finish alike. Assumes nothing.
 use Rattle.std.specs.Prelude.{◌≡◌, refl, Bool, true, false, cond, not, ◌&&◌, ◌||◌, List, ℕ, ◌+◌, ◌*◌, ◌/◌, ◌%◌, ◌<◌, eqb, length, ℤ, pos}
 use Rattle.std.proofs.Common.{sym, ap, ◌∙◌, arith, eqb-true}
-use Rattle.rfc6386.specs.Vector.{Lowering, mergeable}
+use Rattle.rfc6386.specs.Vector.{mergeable}
+use Rattle.rfc6386.specs.declared.Lowering.{Lowering}
 use Rattle.rfc6386.specs.Macroblock.{Reference, answered, whole, split}
 use Rattle.rfc6386.specs.Telling.{sixteen}
 use Rattle.rfc6386.proofs.Merging.{merge_inside}
@@ -14,7 +15,7 @@ use Rattle.residue.specs.Reconstruction.{finished_unless, whole_finished, split_
 use Rattle.residue.proofs.Refused.{first_cases, zero_late}
 use Rattle.rfc6386.specs.declared.Mv.{Mv}
 use Rattle.rfc6386.specs.declared.FilterSet.{FilterSet}
-use Rattle.rfc6386.specs.declared.Prediction.{Prediction}
+use Rattle.rfc6386.specs.Answer.{Prediction}
 
 -- the coefficients s of a split macroblock are those c of a whole one, with what Y2 gives
 pub record Alike (c s : List ℤ) : Type 0 where

@@ -1,5 +1,5 @@
 -- Which coefficients are refused, said of each of them; and what an accepted list offers to the transforms. Assumes nothing.
-use Rattle.std.specs.Prelude.{◌≡◌, refl, Bool, true, false, cond, ◌&&◌, ◌||◌, List, ℕ, zero, suc, ◌+◌, ◌-◌, ◌/◌, ◌%◌, ◌<◌, ◌≤◌, T, eqb, ltb, length, ℤ, pos}
+use Rattle.std.specs.Prelude.{◌≡◌, ◌↔◌, refl, Bool, true, false, cond, ◌&&◌, ◌||◌, List, ℕ, zero, suc, ◌+◌, ◌-◌, ◌/◌, ◌%◌, ◌<◌, ◌≤◌, T, eqb, ltb, length, ℤ, pos}
 use Rattle.std.proofs.Common.{sym, ap, ◌∙◌, arith, below_more}
 use Rattle.std.proofs.Math.Path.{subst}
 use Rattle.std.proofs.Math.Bool.{not}
@@ -7,6 +7,7 @@ use borrow.Author.Tests.{ltb-true, ltb-false, lt-ltb, le-ltb, eqb-true, eq-eqb}
 use Rattle.std.proofs.Math.IntN.{nat_abs}
 use Rattle.rfc6386.specs.Raster.{tab}
 use Rattle.rfc6386.proofs.Laws.Raster.{length-tab, get_or-tab}
+use Rattle.rfc6386.proofs.Laws.Tests.{or-false}
 use Rattle.rfc6386.specs.Refusal.{or_else}
 use Rattle.residue.specs.Transform.{at, inverse_wht}
 use Rattle.residue.specs.Coefficients.{block, first_of_y, seeded_at, seeded, beyond, some, split_beyond, whole_beyond, residue_refusal, whole_refusal, split_refusal}
@@ -25,11 +26,12 @@ pub by-true : (b : Bool) → (b ≡ false → ⊥) → b ≡ true
 by-true true h = refl
 by-true false h = absurd (h refl)
 
-or-false : (a b : Bool) → a || b ≡ false → (a ≡ false) × (b ≡ false)
-or-false false b e = (refl, e)
-or-false true b e = true-not-false true refl e
+-- a test is another where both are false at the same
+pub same_test : (r t : Bool) {P : Type 0} → (r ≡ false) ↔ P → (t ≡ false → P) → (P → t ≡ false) → r ≡ t
+same_test true t (there, here) f g = sym (by-true t (λ e. true-not-false true refl (here (f e))))
+same_test false t (there, here) f g = sym (g (there refl))
 
-or_none : (a b : Bool) → a ≡ false → b ≡ false → a || b ≡ false
+pub or_none : (a b : Bool) → a ≡ false → b ≡ false → a || b ≡ false
 or_none false b e f = f
 or_none true b e f = true-not-false true refl e
 

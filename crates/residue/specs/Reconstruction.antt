@@ -5,7 +5,7 @@ use Rattle.rfc6386.specs.Refusal.{or_else}
 use Rattle.rfc6386.specs.Macroblock.{answered}
 use Rattle.residue.specs.Coefficients.{seeded, finished, whole_refusal, split_refusal}
 use Rattle.rfc6386.specs.declared.ReconstructedMb.{ReconstructedMb}
-use Rattle.rfc6386.specs.declared.Prediction.{Prediction}
+use Rattle.rfc6386.specs.Answer.{Prediction}
 
 abbrev pub finished_unless : Bool → List ℤ → ReconstructedMb → ReconstructedMb
 finished_unless skip c s = cond skip s (finished c s)

@@ -7,30 +7,13 @@ ghost use Rattle.residue.specs.Inner.{Low};
 
 use crate::short::inverse_wht_quick;
 
-pub fn block_of(c: &[i16], i: usize) -> [i16; 16]
-    requires { i + 16 ≤ length c.now }
-    ensures { result ≡ coefficients.block c.now i }
+// N coefficients from number i on.
+pub fn part_of<const N: usize>(c: &[i16], i: usize) -> [i16; N]
+    requires { i + N ≤ length c.now }
+    ensures { result ≡ tab N (λ k. at c.now (i + k)) }
 {
-    let mut out = [0i16; 16];
-    let mut k: usize = 0;
-    while k < 16 {
-        out[k] = c[i + k];
-        k += 1;
-    }
-    out
-}
-
-// All but Y2.
-fn others(c: &[i16]) -> [i16; 384]
-    requires { length c.now ≡ 400 }
-    ensures { result ≡ tab 384 (λ i. at c.now (16 + i)) }
-{
-    let mut out = [0i16; 384];
-    let mut i: usize = 0;
-    while i < 384 {
-        out[i] = c[16 + i];
-        i += 1;
-    }
+    let mut out = [0i16; N];
+    out.copy_from_slice(&c[i..i + N]);
     out
 }
 
@@ -39,12 +22,10 @@ pub fn seeded(c: &[i16]) -> [i16; 384]
     requires low { Low c.now 0 16 16383 }
     ensures { result ≡ coefficients.seeded c.now }
 {
-    let first = inverse_wht_quick(block_of(c, 0));
-    let mut out = others(c);
-    let mut b: usize = 0;
-    while b < 16 {
+    let first = inverse_wht_quick(part_of::<16>(c, 0));
+    let mut out = part_of::<384>(c, 16);
+    for b in 0..16 {
         out[16 * b] = first[b];
-        b += 1;
     }
     out
 }

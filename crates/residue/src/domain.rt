@@ -1,52 +1,35 @@
 // Number 11: a count that is not due, or a coefficient beyond its range while the residue is to be added. Every coefficient is looked at, with
 // no way out: the compiler makes vector code of it.
-ghost use Rattle.std.specs.Prelude.{◌≡◌, ◌↔◌, ◌+◌, ◌*◌, ◌<◌, ◌≤◌, length, pos, nat_abs};
+// The list is a slice, as C lends it: its length is tested here, and asked once it is.
+ghost use Rattle.std.specs.Prelude.{◌≡◌, false, ◌↔◌, ◌≤◌, length};
+ghost use Rattle.numbers.specs.Outcome.{told};
 ghost use Rattle.residue.specs.Coefficients.{whole_beyond, whole_refusal, split_refusal};
 ghost use Rattle.residue.specs.Inner.{Low, Open};
 
-use numbers::DOMAIN;
+use numbers::Refusal;
 
-// 1 where z does not lie in -n .. n, else 0.
-fn outside(z: i16, n: i16) -> u16
-    requires { n ≡ pos (nat_abs n) }
-    ensures { (result ≤ 1) × ((result ≡ 0) ↔ (nat_abs z ≤ nat_abs n)) }
-{
-    if n < z {
-        return 1;
-    }
-    if z < -n {
-        return 1;
-    }
-    0
-}
-
-// How many of n numbers from number i on do not lie in -m .. m.
-fn beyond(c: &[i16], i: usize, n: usize, m: i16) -> u16
-    requires n_in_bounds { i + n ≤ length c.now }
-    requires n_bound { (n ≤ 384) × (m ≡ pos (nat_abs m)) }
-    ensures { (result ≤ n) × ((result ≡ 0) ↔ Low c.now i n (nat_abs m)) }
+// Whether any of c does not lie in -m .. m. They are counted: a loop with a way out at the first does not become vector code.
+fn beyond(c: &[i16], m: u16) -> bool
+    requires { length c.now ≤ 384 }
+    ensures { (result ≡ false) ↔ Low c.now 0 (length c.now) m }
 {
     let mut bad: u16 = 0;
-    let mut k: usize = 0;
-    while k < n {
-        bad += outside(c[i + k], m);
-        k += 1;
+    for z in c {
+        bad += u16::from(m < z.unsigned_abs());
     }
-    bad
+    bad != 0
 }
 
-// How many in the sixteen Y blocks, the first of each left out. Number 8 of each is looked at twice, so that both halves are of eight.
-fn beyond_firsts(c: &[i16]) -> u16
+// Of the sixteen Y blocks, the first of each left out. Number 8 of each is looked at twice, so that both halves are of eight.
+fn beyond_firsts(c: &[i16]) -> bool
     requires { length c.now ≡ 400 }
-    ensures { (result ≡ 0) ↔ Open c.now 16 256 }
+    ensures { (result ≡ false) ↔ Open c.now 16 256 }
 {
-    let mut bad: u16 = 0;
-    let mut b: usize = 0;
-    while b < 16 {
-        let low = beyond(c, 16 * b + 17, 8, 4095);
-        let high = beyond(c, 16 * b + 24, 8, 4095);
-        bad += low + high;
-        b += 1;
+    let mut bad = false;
+    for b in 0..16 {
+        let low = beyond(&c[16 * b + 17..16 * b + 25], 4095);
+        let high = beyond(&c[16 * b + 24..16 * b + 32], 4095);
+        bad = bad | low | high;
     }
     bad
 }
@@ -56,44 +39,36 @@ fn whole_beyond(c: &[i16]) -> bool
     requires { length c.now ≡ 400 }
     ensures { result ≡ whole_beyond c.now }
 {
-    if beyond(c, 0, 16, 16383) != 0 {
+    if beyond(&c[..16], 16383) {
         return true;
     }
-    if beyond(c, 16, 384, 4095) == 0 {
+    if !beyond(&c[16..], 4095) {
         return false;
     }
-    if beyond_firsts(c) != 0 {
-        return true;
-    }
-    beyond(c, 272, 128, 4095) != 0
+    beyond_firsts(c) || beyond(&c[272..], 4095)
 }
 
-pub fn whole_refusal(skip: bool, c: &[i16]) -> u32
-    ensures { result ≡ whole_refusal skip c.now }
+// This one and `split_refusal` differ in the count and in the test, which asks for that count: a function of both that takes a test would be longer.
+pub fn whole_refusal(skip: bool, c: &[i16]) -> Result<(), Refusal>
+    ensures { told result ≡ whole_refusal skip c.now }
 {
     if c.len() != 400 {
-        return DOMAIN;
+        return Err(Refusal::Domain);
     }
-    if skip {
-        return 0;
+    if !skip && whole_beyond(c) {
+        return Err(Refusal::Domain);
     }
-    if whole_beyond(c) {
-        return DOMAIN;
-    }
-    0
+    Ok(())
 }
 
-pub fn split_refusal(skip: bool, c: &[i16]) -> u32
-    ensures { result ≡ split_refusal skip c.now }
+pub fn split_refusal(skip: bool, c: &[i16]) -> Result<(), Refusal>
+    ensures { told result ≡ split_refusal skip c.now }
 {
     if c.len() != 384 {
-        return DOMAIN;
+        return Err(Refusal::Domain);
     }
-    if skip {
-        return 0;
+    if !skip && beyond(c, 4095) {
+        return Err(Refusal::Domain);
     }
-    if beyond(c, 0, 384, 4095) != 0 {
-        return DOMAIN;
-    }
-    0
+    Ok(())
 }

@@ -1,8 +1,7 @@
 // Blocks with only their first number nonzero: a transform then gives one number sixteen times.
 ghost use Rattle.std.specs.Prelude.{◌≡◌, true, ◌↔◌, pos};
 ghost use Rattle.residue.specs.Transform.{inverse_wht};
-ghost use Rattle.residue.specs.Inner.{Bounded};
-ghost use Rattle.residue.specs.Inner.{OnlyFirst};
+ghost use Rattle.residue.specs.Inner.{OnlyFirst, Bounded};
 
 use crate::transform::inverse_wht_4x4;
 
@@ -18,10 +17,8 @@ pub fn only_first(x: [i16; 16]) -> bool
     ensures { (result ≡ true) ↔ OnlyFirst x }
 {
     let mut seen: i16 = 0;
-    let mut i: usize = 1;
-    while i < 16 {
+    for i in 1..16 {
         seen = either(seen, x[i]);
-        i += 1;
     }
     seen == 0
 }

@@ -6,7 +6,8 @@ use Rattle.std.proofs.Math.Path.{ap}
 use Rattle.std.proofs.Math.ListN.{get_or}
 use Rattle.std.proofs.lemmas.List.{length-replicate}
 use Rattle.std.specs.Int.{w16}
-use Rattle.rfc6386.specs.Vector.{Lowering, lowering_of, inside, mergeable}
+use Rattle.rfc6386.specs.Vector.{lowering_of, inside, mergeable}
+use Rattle.rfc6386.specs.declared.Lowering.{Lowering}
 use Rattle.rfc6386.specs.Filter.{version_set}
 use Rattle.rfc6386.specs.Macroblock.{Reference, lent, refusal, answered, whole, split}
 use Rattle.rfc6386.specs.Version.{reserved_version, whole_by_version, split_by_version}
@@ -19,7 +20,7 @@ use Rattle.rfc6386.proofs.Laws.Merging.{only-bytes}
 use Rattle.rfc6386.specs.declared.Mv.{Mv}
 use Rattle.rfc6386.specs.declared.FilterSet.{FilterSet}
 use Rattle.rfc6386.specs.declared.Sizes.{Sizes}
-use Rattle.rfc6386.specs.declared.Prediction.{Prediction}
+use Rattle.rfc6386.specs.Answer.{Prediction}
 
 -- ---- what a call on a macroblock is given besides vectors, table and flag
 pub record Place : Type 0 where

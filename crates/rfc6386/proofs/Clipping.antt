@@ -4,7 +4,8 @@ use Rattle.std.specs.Prelude.{◌≡◌, refl, true, ◌&&◌, List, ℕ, ◌+�
 use Rattle.std.proofs.Common.{sym, ap, ap₂, ◌∙◌, arith, eq-eqb}
 use Rattle.signed.specs.Int.{int, times, one_side}
 use Rattle.rfc6386.specs.Number.{floor_div}
-use Rattle.rfc6386.specs.Vector.{stored, fraction, whole_chroma, lowered, Lowering, lowering_of, each, luma_vector, chroma_vector, is_whole, sent, quarter_average, quarter_vector, mergeable}
+use Rattle.rfc6386.specs.Vector.{stored, fraction, whole_chroma, lowered, lowering_of, each, luma_vector, chroma_vector, is_whole, sent, quarter_average, quarter_vector, mergeable}
+use Rattle.rfc6386.specs.declared.Lowering.{Lowering}
 use Rattle.rfc6386.specs.Picture.{image}
 use Rattle.rfc6386.specs.Clips.{clip_of, no_clips, both_clips, clips_by, block_clips}
 use Rattle.rfc6386.specs.Macroblock.{Reference, plane_y, plane_u, plane_v, subblock, quarter}

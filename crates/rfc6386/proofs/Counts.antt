@@ -8,7 +8,8 @@ use native.Mathlib.Omega.{arith}
 use Rattle.std.proofs.Math.ListN.{length, length-append}
 use Rattle.signed.specs.Int.{int, times, one_side}
 use Rattle.rfc6386.specs.Number.{floor_div}
-use Rattle.rfc6386.specs.Vector.{Lowering, lowering_of, whole_part, fraction, stored, whole_chroma, lowered, each, is_whole, quarter_average, luma_vector, chroma_vector, quarter_vector, zero_vector, sent, One}
+use Rattle.rfc6386.specs.Vector.{lowering_of, whole_part, fraction, stored, whole_chroma, lowered, each, is_whole, quarter_average, luma_vector, chroma_vector, quarter_vector, zero_vector, sent, One}
+use Rattle.rfc6386.specs.declared.Lowering.{Lowering}
 use Rattle.rfc6386.specs.Picture.{Plane}
 use Rattle.rfc6386.specs.Macroblock.{Reference, plane_y, plane_u, plane_v, split}
 use Rattle.rfc6386.specs.Clips.{no_clips}
@@ -25,9 +26,8 @@ use Rattle.rfc6386.proofs.Laws.Merging.{mergeable-true, sent_equal, chroma_equal
 use Rattle.rfc6386.proofs.Laws.Fetched.{cost, length-square, length-block, length_tiles, cost_least, cost_most, cost_eight, cost_sixteen, is_one_lem, luma_most, luma_some}
 use Rattle.rfc6386.specs.declared.Mv.{Mv}
 use Rattle.rfc6386.specs.declared.FilterSet.{FilterSet}
-use Rattle.rfc6386.specs.declared.Prediction.{Prediction}
+use Rattle.rfc6386.specs.Answer.{Prediction, Report}
 use Rattle.rfc6386.specs.declared.Clips.{Clips}
-use Rattle.rfc6386.specs.declared.Report.{Report}
 
 -- ---- the macroblock, whatever its number
 module _ (low : Lowering) (ref : Reference) (col row : ℕ) where

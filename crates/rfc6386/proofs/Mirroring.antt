@@ -9,7 +9,8 @@ use Rattle.rfc6386.specs.Number.{clamped}
 use Rattle.rfc6386.specs.Raster.{tab}
 use Rattle.rfc6386.specs.Picture.{Plane, Image, image, filtered, predicted, block_by, block}
 use Rattle.rfc6386.specs.Refusal.{if_done}
-use Rattle.rfc6386.specs.Vector.{Lowering, lowering_of, sent}
+use Rattle.rfc6386.specs.Vector.{lowering_of, sent}
+use Rattle.rfc6386.specs.declared.Lowering.{Lowering}
 use Rattle.rfc6386.specs.Macroblock.{Reference, refusal, whole_samples, split_samples, answered, whole, split}
 use Rattle.rfc6386.specs.Channel.{Channel, side, plane_in, samples_in, whole_vector, tile_vector}
 use Rattle.rfc6386.specs.Channel.Channel.{luma, chroma_u, chroma_v}
@@ -25,7 +26,7 @@ use Rattle.rfc6386.proofs.Laws.Mirroring.{Opposite, col-opposite, row-opposite, 
 use Rattle.rfc6386.specs.declared.Mv.{Mv}
 use Rattle.rfc6386.specs.declared.FilterSet.{FilterSet}
 use Rattle.rfc6386.specs.declared.ReconstructedMb.{ReconstructedMb}
-use Rattle.rfc6386.specs.declared.Prediction.{Prediction}
+use Rattle.rfc6386.specs.Answer.{Prediction}
 
 -- ---- the mirrored call is accepted too
 -- the samples of a macroblock, mirrored channel by channel

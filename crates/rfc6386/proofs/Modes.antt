@@ -6,7 +6,8 @@ use Rattle.std.proofs.Common.{◌∙◌, arith, eqb-true, ne_eqb}
 use Rattle.std.proofs.Math.Bool.{true, false, cond}
 use Rattle.std.proofs.lemmas.List.{length-replicate}
 use Rattle.rfc6386.specs.Number.{clamped}
-use Rattle.rfc6386.specs.Vector.{Lowering, fraction, stored, each, luma_vector, chroma_vector, is_whole, sent}
+use Rattle.rfc6386.specs.Vector.{fraction, stored, each, luma_vector, chroma_vector, is_whole, sent}
+use Rattle.rfc6386.specs.declared.Lowering.{Lowering}
 use Rattle.rfc6386.specs.Filter.{version_set, taps_of, dot, rounded, clamp255, step}
 use Rattle.rfc6386.specs.Raster.{raster}
 use Rattle.rfc6386.specs.Picture.{Image, image, across, two_steps, filtered, predicted, block}
@@ -25,7 +26,7 @@ use Rattle.rfc6386.proofs.Laws.Channels.{whole_sample, split_sample}
 use Rattle.rfc6386.specs.declared.Mv.{Mv}
 use Rattle.rfc6386.specs.declared.FilterSet.TheVariants.{Bilinear}
 use Rattle.rfc6386.specs.declared.ReconstructedMb.{ReconstructedMb}
-use Rattle.rfc6386.specs.declared.Prediction.{Prediction}
+use Rattle.rfc6386.specs.Answer.{Prediction}
 
 -- ---- version 3
 -- two answers that are the same but for luma

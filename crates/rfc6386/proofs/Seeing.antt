@@ -5,7 +5,8 @@ use Rattle.std.proofs.Math.Path.{sym, fun_ext}
 use Rattle.std.proofs.Common.{ap, ap₂, ◌∙◌, arith}
 use Rattle.std.proofs.lemmas.List.{length-replicate}
 use Rattle.rfc6386.specs.Number.{clamped}
-use Rattle.rfc6386.specs.Vector.{Lowering, lowering_of, luma_vector}
+use Rattle.rfc6386.specs.Vector.{lowering_of, luma_vector}
+use Rattle.rfc6386.specs.declared.Lowering.{Lowering}
 use Rattle.rfc6386.specs.Filter.{taps_of, dot, rounded, clamp255, step}
 use Rattle.rfc6386.specs.Raster.{raster}
 use Rattle.rfc6386.specs.Picture.{Image, image, across, two_steps, filtered, predicted}
@@ -23,7 +24,7 @@ use Rattle.rfc6386.proofs.Laws.Seeing.{block_seen, tile_seen, tiles_seen, strip_
 use Rattle.rfc6386.specs.declared.Mv.{Mv}
 use Rattle.rfc6386.specs.declared.FilterSet.{FilterSet}
 use Rattle.rfc6386.specs.declared.FilterSet.TheVariants.{Sixtap, Bilinear}
-use Rattle.rfc6386.specs.declared.Prediction.{Prediction}
+use Rattle.rfc6386.specs.Answer.{Prediction}
 
 module _ (set : FilterSet) (low : Lowering) (ref ref' : Reference) (col row : ℕ) (ok : refusal ref col row ≡ 0) (ok' : refusal ref' col row ≡ 0) where
   -- THEOREM (K13, whole). For both tables, every rule of full-pixel and every vector.

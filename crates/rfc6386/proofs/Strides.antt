@@ -4,7 +4,7 @@ use Rattle.std.specs.Prelude.{◌≡◌, Bool, true, false, ◌||◌, List, ℕ,
 use Rattle.std.proofs.Common.{sym, ◌∙◌}
 use Rattle.std.proofs.Math.Path.{ap}
 use Rattle.std.proofs.Math.Bool.{cond}
-use Rattle.rfc6386.specs.Vector.{Lowering}
+use Rattle.rfc6386.specs.declared.Lowering.{Lowering}
 use Rattle.rfc6386.specs.Refusal.{bad_stride, too_few}
 use Rattle.rfc6386.specs.Macroblock.{Reference, lent, size_test, place_test, refusal, whole, split, whole_pixel}
 use Rattle.rfc6386.specs.declared.Mv.{Mv}

@@ -1,6 +1,7 @@
 -- The three planes of a picture and of a macroblock by name, so that one statement speaks of each.
 use Rattle.std.specs.Prelude.{ℕ, ◌+◌, ◌*◌, List}
-use Rattle.rfc6386.specs.Vector.{Lowering, luma_vector, chroma_vector, quarter_vector, sent}
+use Rattle.rfc6386.specs.Vector.{luma_vector, chroma_vector, quarter_vector, sent}
+use Rattle.rfc6386.specs.declared.Lowering.{Lowering}
 use Rattle.rfc6386.specs.Picture.{Plane}
 use Rattle.rfc6386.specs.Macroblock.{Source, Reference, side_plane}
 use Rattle.rfc6386.specs.declared.Mv.{Mv}

@@ -2,7 +2,8 @@
 -- counted from the other end, or both.
 use Rattle.std.specs.Prelude.{ℕ, ◌+◌, ◌-◌, ◌*◌, ◌/◌, ◌%◌, ◌≡◌, Bool, true, false, ◌&&◌, List, get_or, ℤ, pos, negsuc, neg_ℤ}
 use Rattle.std.specs.Int.Signed.{le_z}
-use Rattle.rfc6386.specs.Vector.{Lowering, lowering_of, sent}
+use Rattle.rfc6386.specs.Vector.{lowering_of, sent}
+use Rattle.rfc6386.specs.declared.Lowering.{Lowering}
 use Rattle.rfc6386.specs.Raster.{tab, raster, written}
 use Rattle.rfc6386.specs.Picture.{Plane, sample_at}
 use Rattle.rfc6386.specs.Macroblock.{Reference}
@@ -10,7 +11,7 @@ use Rattle.rfc6386.specs.Channel.{plane_in}
 use Rattle.rfc6386.specs.Channel.Channel.{luma, chroma_u, chroma_v}
 use Rattle.rfc6386.specs.declared.Mv.{Mv}
 use Rattle.rfc6386.specs.declared.ReconstructedMb.{ReconstructedMb}
-use Rattle.rfc6386.specs.declared.Prediction.{Prediction}
+use Rattle.rfc6386.specs.Answer.{Prediction}
 
 -- which axes are turned round
 pub record Mirror : Type 0 where

@@ -1,7 +1,8 @@
 -- What the calls on a macroblock report: the prediction, how many samples were fetched for it (request K8), and how many were clipped (K14).
 use Rattle.std.specs.Prelude.{ℕ, zero, suc, ◌+◌, ◌*◌, ◌/◌, ◌%◌, ◌^◌, Bool, true, cond, ◌&&◌, List, ◌++◌, length}
 use Rattle.std.specs.Int.Signed.{le_z}
-use Rattle.rfc6386.specs.Vector.{Lowering, luma_vector, chroma_vector, quarter_vector, sent, mergeable}
+use Rattle.rfc6386.specs.Vector.{luma_vector, chroma_vector, quarter_vector, sent, mergeable}
+use Rattle.rfc6386.specs.declared.Lowering.{Lowering}
 use Rattle.rfc6386.specs.Picture.{Plane, image}
 use Rattle.rfc6386.specs.Clips.{no_clips, both_clips, clips_by, block_clips}
 use Rattle.rfc6386.specs.Fetched.{Coordinate, pixels_of, block_of, tiles_of}
@@ -11,8 +12,7 @@ use Rattle.rfc6386.specs.Macroblock.{Reference, plane_y, plane_u, plane_v, subbl
 use Rattle.rfc6386.specs.declared.Mv.{Mv}
 use Rattle.rfc6386.specs.declared.FilterSet.{FilterSet}
 use Rattle.rfc6386.specs.declared.Clips.{Clips}
-use Rattle.rfc6386.specs.declared.Prediction.{Prediction}
-use Rattle.rfc6386.specs.declared.Report.{Report}
+use Rattle.rfc6386.specs.Answer.{Prediction, Report}
 
 -- ---- what is fetched: of Y, then of U, then of V
 unfoldable pub whole_of : Lowering → Reference → ℕ → ℕ → Mv → List Coordinate

@@ -1,7 +1,8 @@
 -- Which samples a prediction may see, on one axis at a time; and the strip of a picture that someone has blanked.
 use Rattle.std.specs.Prelude.{ℕ, zero, suc, ◌+◌, ◌-◌, ◌*◌, ◌/◌, ◌<◌, ◌≤◌, ◌≡◌, ◌⊎◌, List, ℤ, pos, ◌+ℤ◌, ◌-ℤ◌}
 use Rattle.rfc6386.specs.Number.{clamped}
-use Rattle.rfc6386.specs.Vector.{whole_part, fraction, Lowering}
+use Rattle.rfc6386.specs.Vector.{whole_part, fraction}
+use Rattle.rfc6386.specs.declared.Lowering.{Lowering}
 use Rattle.rfc6386.specs.Picture.{Plane, sample_at}
 use Rattle.rfc6386.specs.Macroblock.{Reference}
 use Rattle.rfc6386.specs.Channel.{Channel, side, plane_in, whole_vector, tile_vector}

@@ -2,13 +2,14 @@
 -- before every other, where it is reserved. What full-pixel lowers is a matter of two modes: luma and chroma, as the Rust has it, or chroma
 -- alone, as the reference decoder (section 20.14).
 use Rattle.std.specs.Prelude.{Bool, true, false, cond, List, ℕ}
-use Rattle.rfc6386.specs.Vector.{Lowering, lowering_of}
+use Rattle.rfc6386.specs.Vector.{lowering_of}
+use Rattle.rfc6386.specs.declared.Lowering.{Lowering}
 use Rattle.rfc6386.specs.Filter.{version_profile}
-use Rattle.rfc6386.specs.Macroblock.{Reference, no_samples, whole, split}
+use Rattle.rfc6386.specs.Macroblock.{Reference, whole, split}
+use Rattle.rfc6386.specs.Answer.{no_samples, Prediction}
 use Rattle.rfc6386.specs.declared.Mv.{Mv}
 use Rattle.rfc6386.specs.declared.FilterSet.{FilterSet}
 use Rattle.rfc6386.specs.declared.Profile.{Profile}
-use Rattle.rfc6386.specs.declared.Prediction.{Prediction}
 
 -- what a call with a reserved version answers
 abbrev pub reserved_version : Prediction

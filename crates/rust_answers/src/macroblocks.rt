@@ -1,89 +1,155 @@
 // Records of predictions. A split one also holds merging prediction to its answer, and where a version asks for the filter and the flag the
 // predictions by version are held to it too.
-use crate::tally::{MERGING, SPLIT_BY_VERSION, Tally, WHOLE_BY_VERSION, counted};
+use crate::functions::Function;
+use crate::tally::Tally;
+use numbers::Refusal;
 use prediction::{predict_inter_mb, predict_merging, predict_split_mv};
-use rfc6386::{Prediction, Sizes};
+use rfc6386::{FilterSet, Predicted, ReconstructedMb, Sizes};
 use shims::bytes::{byte_at, flat, mv_of, mvs_of, part};
 use shims::codes::set_of;
 use shims::planes::shim_whole_pixel;
 use versions::{predict_inter_mb_by_version, predict_split_mv_by_version};
 
-fn is(p: Prediction, answer: &[u8]) -> bool {
-    let samples = flat(p);
-    p.number == 0 && samples.as_slice() == answer
+// The planes that stand, and their sizes.
+#[derive(Clone, Copy)]
+pub struct Picture<'a> {
+    pub y: &'a [u8],
+    pub u: &'a [u8],
+    pub v: &'a [u8],
+    pub sizes: Sizes,
 }
 
-// No version asks for six-tap with the flag.
-fn has_version(filter: u8, flag: u8) -> bool {
-    filter != 0 || flag == 0
+// What whole and split records begin with.
+#[derive(Clone, Copy)]
+struct Asked {
+    col: usize,
+    row: usize,
+    full_pixel: bool,
+    set: FilterSet,
+    // where one asks for this filter and this flag: none asks for six-tap with the flag
+    version: Option<u8>,
 }
 
-fn whole_pixel(y: &[u8], u: &[u8], v: &[u8], sizes: Sizes, r: &[u8], t: Tally) -> Tally {
+fn asked_of(r: &[u8]) -> Asked {
+    let full_pixel = byte_at(r, 2) != 0;
+    let filter = byte_at(r, 3);
+    let version = if filter != 0 || !full_pixel {
+        Some(byte_at(r, 4))
+    } else {
+        None
+    };
+    Asked {
+        col: usize::from(byte_at(r, 0)),
+        row: usize::from(byte_at(r, 1)),
+        full_pixel,
+        set: set_of(filter),
+        version,
+    }
+}
+
+fn is(made: Result<ReconstructedMb, Refusal>, answer: &[u8]) -> bool {
+    match made {
+        Ok(samples) => flat(samples).as_slice() == answer,
+        Err(_) => false,
+    }
+}
+
+fn predicted(made: Result<Predicted, Refusal>, answer: &[u8]) -> bool {
+    is(made.map(|mb| mb.samples), answer)
+}
+
+fn whole_pixel(p: Picture<'_>, r: &[u8], t: Tally) -> Tally {
     let mv = mv_of(part(r, 3, 4));
     let mut out = [0u8; 384];
     let number = shim_whole_pixel(
-        y,
-        u,
-        v,
-        sizes.y_stride,
-        sizes.u_stride,
-        sizes.v_stride,
-        sizes.mb_cols,
-        sizes.mb_rows,
-        byte_at(r, 0) as usize,
-        byte_at(r, 1) as usize,
+        p.y,
+        p.u,
+        p.v,
+        p.sizes.y_stride,
+        p.sizes.u_stride,
+        p.sizes.v_stride,
+        p.sizes.mb_cols,
+        p.sizes.mb_rows,
+        usize::from(byte_at(r, 0)),
+        usize::from(byte_at(r, 1)),
         mv.row,
         mv.col,
         byte_at(r, 2),
         &mut out,
     );
-    counted(
-        t,
-        23,
-        number == byte_at(r, 7) as u32 && out.as_slice() == part(r, 8, 384),
-    )
+    let same = number == u32::from(byte_at(r, 7)) && out.as_slice() == part(r, 8, 384);
+    t.with(Function::PredictInterMbWholePixel, same)
 }
 
-fn whole(y: &[u8], u: &[u8], v: &[u8], sizes: Sizes, r: &[u8], t: Tally) -> Tally {
-    let col = byte_at(r, 0) as usize;
-    let row = byte_at(r, 1) as usize;
-    let flag = byte_at(r, 2);
-    let filter = byte_at(r, 3);
+fn whole(p: Picture<'_>, r: &[u8], t: Tally) -> Tally {
+    let a = asked_of(r);
     let mv = mv_of(part(r, 5, 4));
     let answer = part(r, 9, 384);
-    let report = predict_inter_mb(y, u, v, sizes, col, row, mv, flag != 0, set_of(filter));
-    let held = counted(t, 24, is(report.prediction, answer));
-    if !has_version(filter, flag) {
+    let made = predict_inter_mb(
+        p.y,
+        p.u,
+        p.v,
+        p.sizes,
+        a.col,
+        a.row,
+        mv,
+        a.full_pixel,
+        a.set,
+    );
+    let held = t.with(Function::PredictInterMb, predicted(made, answer));
+    let Some(version) = a.version else {
         return held;
-    }
-    let q = predict_inter_mb_by_version(y, u, v, sizes, col, row, mv, byte_at(r, 4), false);
-    counted(held, WHOLE_BY_VERSION, is(q, answer))
+    };
+    let by_version = predict_inter_mb_by_version(
+        p.y, p.u, p.v, p.sizes, a.col, a.row, mv, version, false,
+    );
+    held.with(Function::PredictInterMbByVersion, is(by_version, answer))
 }
 
-fn split(y: &[u8], u: &[u8], v: &[u8], sizes: Sizes, r: &[u8], t: Tally) -> Tally {
-    let col = byte_at(r, 0) as usize;
-    let row = byte_at(r, 1) as usize;
-    let flag = byte_at(r, 2);
-    let filter = byte_at(r, 3);
+fn split(p: Picture<'_>, r: &[u8], t: Tally) -> Tally {
+    let a = asked_of(r);
     let mvs = mvs_of(part(r, 5, 64));
     let answer = part(r, 69, 384);
-    let apart = predict_split_mv(y, u, v, sizes, col, row, mvs, flag != 0, set_of(filter));
-    let held = counted(t, 25, is(apart.prediction, answer));
-    let merging = predict_merging(y, u, v, sizes, col, row, mvs, flag != 0, set_of(filter));
-    let merged = counted(held, MERGING, is(merging.prediction, answer));
-    if !has_version(filter, flag) {
-        return merged;
-    }
-    let q = predict_split_mv_by_version(y, u, v, sizes, col, row, mvs, byte_at(r, 4), false);
-    counted(merged, SPLIT_BY_VERSION, is(q, answer))
+    let apart = predict_split_mv(
+        p.y,
+        p.u,
+        p.v,
+        p.sizes,
+        a.col,
+        a.row,
+        mvs,
+        a.full_pixel,
+        a.set,
+    );
+    let merging = predict_merging(
+        p.y,
+        p.u,
+        p.v,
+        p.sizes,
+        a.col,
+        a.row,
+        mvs,
+        a.full_pixel,
+        a.set,
+    );
+    let held = t
+        .with(Function::PredictSplitMv, predicted(apart, answer))
+        .with(Function::PredictMerging, predicted(merging, answer));
+    let Some(version) = a.version else {
+        return held;
+    };
+    let by_version = predict_split_mv_by_version(
+        p.y, p.u, p.v, p.sizes, a.col, a.row, mvs, version, false,
+    );
+    held.with(Function::PredictSplitMvByVersion, is(by_version, answer))
 }
 
-// The tally with what a record of that kind adds.
-pub fn held(kind: u8, y: &[u8], u: &[u8], v: &[u8], sizes: Sizes, r: &[u8], t: Tally) -> Tally {
-    match kind {
-        23 => whole_pixel(y, u, v, sizes, r, t),
-        24 => whole(y, u, v, sizes, r, t),
-        25 => split(y, u, v, sizes, r, t),
+// The tally with what a record of that function adds.
+pub fn held(function: Function, p: Picture<'_>, r: &[u8], t: Tally) -> Tally {
+    match function {
+        Function::PredictInterMbWholePixel => whole_pixel(p, r, t),
+        Function::PredictInterMb => whole(p, r, t),
+        Function::PredictSplitMv => split(p, r, t),
         _ => t,
     }
 }

@@ -6,6 +6,7 @@
 
 mod alone;
 mod ending;
+mod functions;
 mod macroblocks;
 mod planes;
 mod replay;

@@ -1,37 +1,37 @@
-// Records of functions on one plane, and how planes stand in the file.
+// Records of functions on one plane.
+use crate::functions::Function;
+use rfc6386::Mv;
 use shims::bytes::{byte_at, fill, mv_of, part, word};
 use shims::planes::{shim_fetch, shim_filter_block, shim_filter_block_into};
 
-// Where a plane's bytes start in the file, how many they are, and its sizes.
+// A plane's bytes, and its sizes.
 #[derive(Clone, Copy)]
-pub struct Plane {
-    pub from: usize,
-    pub len: usize,
+pub struct Plane<'a> {
+    pub bytes: &'a [u8],
     pub stride: usize,
     pub w: usize,
     pub h: usize,
 }
 
-pub fn bytes_of(file: &[u8], p: Plane) -> &[u8] {
-    part(file, p.from, p.len)
+// A column, a row and a vector.
+fn asked(r: &[u8]) -> (usize, usize, Mv) {
+    let x = usize::from(word(r));
+    let y = usize::from(word(part(r, 2, 2)));
+    (x, y, mv_of(part(r, 4, 4)))
 }
 
 // The fetch of a square of that side; `out` has room for its answer.
-fn fetch(side: u8, plane: &[u8], p: Plane, r: &[u8], out: &mut [u8]) -> bool {
-    let x = word(r) as usize;
-    let y = word(part(r, 2, 2)) as usize;
-    let mv = mv_of(part(r, 4, 4));
-    let number = shim_fetch(side, plane, p.stride, p.w, p.h, x, y, mv.row, mv.col, out);
+fn fetch(side: u8, p: Plane<'_>, r: &[u8], out: &mut [u8]) -> bool {
+    let (x, y, mv) = asked(r);
+    let number = shim_fetch(side, p.bytes, p.stride, p.w, p.h, x, y, mv.row, mv.col, out);
     number == 0 && *out == *part(r, 8, out.len())
 }
 
-fn block(plane: &[u8], p: Plane, r: &[u8]) -> bool {
-    let x = word(r) as usize;
-    let y = word(part(r, 2, 2)) as usize;
-    let mv = mv_of(part(r, 4, 4));
+fn block(p: Plane<'_>, r: &[u8]) -> bool {
+    let (x, y, mv) = asked(r);
     let mut out = [0u8; 16];
     let number = shim_filter_block(
-        plane,
+        p.bytes,
         p.stride,
         p.w,
         p.h,
@@ -45,13 +45,11 @@ fn block(plane: &[u8], p: Plane, r: &[u8]) -> bool {
     number == 0 && out.as_slice() == part(r, 9, 16)
 }
 
-fn into(plane: &[u8], p: Plane, r: &[u8]) -> bool {
-    let x = word(r) as usize;
-    let y = word(part(r, 2, 2)) as usize;
-    let mv = mv_of(part(r, 4, 4));
-    let stride = byte_at(r, 9) as usize;
-    let dst_x = byte_at(r, 10) as usize;
-    let dst_y = byte_at(r, 11) as usize;
+fn into(p: Plane<'_>, r: &[u8]) -> bool {
+    let (x, y, mv) = asked(r);
+    let stride = usize::from(byte_at(r, 9));
+    let dst_x = usize::from(byte_at(r, 10));
+    let dst_y = usize::from(byte_at(r, 11));
     let mut dst = [0u8; 96];
     fill(&mut dst, part(r, 12, 96));
     let number = shim_filter_block_into(
@@ -59,7 +57,7 @@ fn into(plane: &[u8], p: Plane, r: &[u8]) -> bool {
         stride,
         dst_x,
         dst_y,
-        plane,
+        p.bytes,
         p.stride,
         p.w,
         p.h,
@@ -72,17 +70,18 @@ fn into(plane: &[u8], p: Plane, r: &[u8]) -> bool {
     number == 0 && dst.as_slice() == part(r, 108, 96)
 }
 
-// Whether our function of that kind gives the record's answer.
-pub fn agrees(kind: u8, plane: &[u8], p: Plane, r: &[u8]) -> bool {
-    match kind {
-        15 => fetch(4, plane, p, r, &mut [0u8; 16]),
-        16 => fetch(9, plane, p, r, &mut [0u8; 81]),
-        17 => fetch(8, plane, p, r, &mut [0u8; 64]),
-        18 => fetch(13, plane, p, r, &mut [0u8; 169]),
-        19 => fetch(16, plane, p, r, &mut [0u8; 256]),
-        20 => fetch(21, plane, p, r, &mut [0u8; 441]),
-        21 => block(plane, p, r),
-        22 => into(plane, p, r),
-        _ => false,
-    }
+// Whether ours gives the record's answer; none where it takes no plane, or three.
+pub fn agrees(function: Function, p: Plane<'_>, r: &[u8]) -> Option<bool> {
+    let same = match function {
+        Function::FetchBlockWholePixel => fetch(4, p, r, &mut [0u8; 16]),
+        Function::FetchBlockHalo => fetch(9, p, r, &mut [0u8; 81]),
+        Function::FetchChromaMbWholePixel => fetch(8, p, r, &mut [0u8; 64]),
+        Function::FetchChromaMbHalo => fetch(13, p, r, &mut [0u8; 169]),
+        Function::FetchLumaMbWholePixel => fetch(16, p, r, &mut [0u8; 256]),
+        Function::FetchLumaMbHalo => fetch(21, p, r, &mut [0u8; 441]),
+        Function::FilterBlock4x4 => block(p, r),
+        Function::FilterBlock4x4Into => into(p, r),
+        _ => return None,
+    };
+    Some(same)
 }

@@ -1,27 +1,29 @@
 // Goes through the file, record by record.
+use crate::functions::{Function, length_of};
+use crate::macroblocks::Picture;
 use crate::planes::Plane;
-use crate::tally::{Tally, counted, nothing};
+use crate::tally::Tally;
 use crate::{alone, macroblocks, planes};
 use rfc6386::Sizes;
 use shims::bytes::{byte_at, part, word};
-use std::num::wrapping_add_usize;
+
+// The first byte of a plane's record.
+const PLANE: u8 = 1;
 
 // Where the next record starts, how many came before it, the planes that stand, and what was found.
 #[derive(Clone, Copy)]
-pub struct State {
+pub struct State<'a> {
     pub at: usize,
     pub records: usize,
-    pub y: Plane,
-    pub u: Plane,
-    pub v: Plane,
+    pub y: Plane<'a>,
+    pub u: Plane<'a>,
+    pub v: Plane<'a>,
     pub tally: Tally,
-    pub is_over: bool,
 }
 
-fn start() -> State {
+fn start<'a>() -> State<'a> {
     let none = Plane {
-        from: 0,
-        len: 0,
+        bytes: b"",
         stride: 0,
         w: 0,
         h: 0,
@@ -32,131 +34,86 @@ fn start() -> State {
         y: none,
         u: none,
         v: none,
-        tally: nothing(),
-        is_over: false,
-    }
-}
-
-// The bytes of a record after its first, by its kind; a plane's are counted by itself.
-fn length_of(kind: u8) -> usize {
-    match kind {
-        2..=4 => 8,
-        5 => 5,
-        6 => 9,
-        7 => 80,
-        8 => 2,
-        9 => 7,
-        10 => 5,
-        11 => 9,
-        12 => 100,
-        13 => 236,
-        14 => 700,
-        15 => 24,
-        16 => 89,
-        17 => 72,
-        18 => 177,
-        19 => 264,
-        20 => 449,
-        21 => 25,
-        22 => 204,
-        23 => 392,
-        24 => 393,
-        25 => 453,
-        _ => 0,
+        tally: Tally::nothing(),
     }
 }
 
 // The state after a record that ends at `end`.
-fn after(s: State, end: usize) -> State {
-    let mut next = s;
-    next.at = end;
-    next.records = wrapping_add_usize(s.records, 1);
-    next
+fn after(s: State<'_>, end: usize) -> State<'_> {
+    State {
+        at: end,
+        records: s.records.wrapping_add(1),
+        ..s
+    }
 }
 
-fn with_plane(s: State, which: u8, p: Plane) -> State {
-    let mut next = s;
+fn with_plane<'a>(s: State<'a>, which: u8, p: Plane<'a>) -> State<'a> {
     match which {
-        0 => {
-            next.y = p;
-        }
-        1 => {
-            next.u = p;
-        }
-        _ => {
-            next.v = p;
-        }
+        0 => State { y: p, ..s },
+        1 => State { u: p, ..s },
+        _ => State { v: p, ..s },
     }
-    next
 }
 
-// A plane, whose sizes start at `from` and whose bytes follow them.
-fn plane(file: &[u8], from: usize, s: State) -> State {
+// A plane, whose sizes start at `from` and whose bytes follow them. The record ends where its head says, also where the file ends before that.
+fn plane<'a>(file: &'a [u8], from: usize, s: State<'a>) -> State<'a> {
     let head = part(file, from, 9);
+    let start = from.wrapping_add(9);
+    let len = usize::from(word(part(head, 7, 2)));
     let p = Plane {
-        from: wrapping_add_usize(from, 9),
-        len: word(part(head, 7, 2)) as usize,
-        stride: word(part(head, 5, 2)) as usize,
-        w: word(part(head, 1, 2)) as usize,
-        h: word(part(head, 3, 2)) as usize,
+        bytes: part(file, start, len),
+        stride: usize::from(word(part(head, 5, 2))),
+        w: usize::from(word(part(head, 1, 2))),
+        h: usize::from(word(part(head, 3, 2))),
     };
-    let end = wrapping_add_usize(p.from, p.len);
-    after(with_plane(s, byte_at(head, 0), p), end)
+    after(with_plane(s, byte_at(head, 0), p), start.wrapping_add(len))
 }
 
-fn held(file: &[u8], kind: u8, r: &[u8], s: State) -> Tally {
-    let t = s.tally;
-    let y = s.y;
-    let u = s.u;
-    let v = s.v;
-    let of_y = planes::bytes_of(file, y);
-    if kind < 15 {
-        return counted(t, kind as usize, alone::agrees(kind, r));
+// The tally with the answers of a record.
+fn held(function: Function, r: &[u8], s: State<'_>) -> Tally {
+    if let Some(same) = alone::agrees(function, r) {
+        return s.tally.with(function, same);
     }
-    if kind < 23 {
-        return counted(t, kind as usize, planes::agrees(kind, of_y, y, r));
+    if let Some(same) = planes::agrees(function, s.y, r) {
+        return s.tally.with(function, same);
     }
-    let sizes = Sizes {
-        y_stride: y.stride,
-        u_stride: u.stride,
-        v_stride: v.stride,
-        mb_cols: y.w / 16,
-        mb_rows: y.h / 16,
+    let picture = Picture {
+        y: s.y.bytes,
+        u: s.u.bytes,
+        v: s.v.bytes,
+        sizes: Sizes {
+            y_stride: s.y.stride,
+            u_stride: s.u.stride,
+            v_stride: s.v.stride,
+            mb_cols: s.y.w / 16,
+            mb_rows: s.y.h / 16,
+        },
     };
-    let of_u = planes::bytes_of(file, u);
-    let of_v = planes::bytes_of(file, v);
-    macroblocks::held(kind, of_y, of_u, of_v, sizes, r, t)
+    macroblocks::held(function, picture, r, s.tally)
 }
 
-fn turn(file: &[u8], s: State) -> State {
+// The state after the next record; none where the byte begins none, as that of the file's last record.
+fn turn<'a>(file: &'a [u8], s: State<'a>) -> Option<State<'a>> {
     let kind = byte_at(file, s.at);
-    let from = wrapping_add_usize(s.at, 1);
-    let mut next = s;
-    if kind == 0 || 25 < kind {
-        next.is_over = true;
-        return next;
+    let from = s.at.wrapping_add(1);
+    if kind == PLANE {
+        return Some(plane(file, from, s));
     }
-    if kind == 1 {
-        return plane(file, from, s);
-    }
-    let length = length_of(kind);
-    let t = held(file, kind, part(file, from, length), s);
-    next.tally = t;
-    after(next, wrapping_add_usize(from, length))
-}
-
-fn goes_on(s: State) -> bool {
-    !s.is_over
+    let function = Function::try_from(kind).ok()?;
+    let length = length_of(function);
+    let tally = held(function, part(file, from, length), s);
+    Some(after(State { tally, ..s }, from.wrapping_add(length)))
 }
 
 // The state at the record that ends the file, or at the first byte that begins none. No file that fits has as many records as the loop has
 // turns.
-pub fn through(file: &[u8]) -> State {
+pub fn through(file: &[u8]) -> State<'_> {
     let mut s = start();
-    let mut turns: usize = 0;
-    while turns < 1000000 && goes_on(s) {
-        s = turn(file, s);
-        turns += 1;
+    for _ in 0..1000000 {
+        let Some(next) = turn(file, s) else {
+            break;
+        };
+        s = next;
     }
     s
 }

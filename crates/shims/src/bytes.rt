@@ -1,59 +1,43 @@
 // Bytes read and written. A byte past the end reads as 0, so that nothing is asked of a length.
-use rfc6386::{Mv, Prediction};
+use numbers::Refusal;
+use rfc6386::{Mv, ReconstructedMb};
 
 pub fn byte_at(s: &[u8], i: usize) -> u8 {
-    if i < s.len() {
-        return s[i];
-    }
-    0
+    s.get(i).copied().unwrap_or(0)
 }
 
 // The `len` bytes from `from` on; none where there are fewer.
+// No range of both: their sum may not fit.
 pub fn part(s: &[u8], from: usize, len: usize) -> &[u8] {
-    if s.len() < from {
-        return &s[..0];
-    }
-    if s.len() - from < len {
-        return &s[..0];
-    }
-    let end = from + len;
-    &s[from..end]
+    s.get(from..)
+        .and_then(|rest| rest.get(..len))
+        .unwrap_or(b"")
+}
+
+// The first N bytes.
+pub fn first<const N: usize>(s: &[u8]) -> [u8; N] {
+    let mut out = [0u8; N];
+    fill(&mut out, s);
+    out
 }
 
 // The low byte stands first.
 pub fn word(s: &[u8]) -> u16 {
-    (byte_at(s, 0) as u16) + 256 * (byte_at(s, 1) as u16)
-}
-
-// A number and its sixteen bits.
-pub fn signed(n: u16) -> i16 {
-    if n < 32768 {
-        return n as i16;
-    }
-    -1 - ((65535 - n) as i16)
-}
-
-pub fn bits(m: i16) -> u16 {
-    if m < 0 {
-        return 65535 - ((-1 - m) as u16);
-    }
-    m as u16
+    u16::from_le_bytes(first(s))
 }
 
 // A vector's row stands before its column.
 pub fn mv_of(s: &[u8]) -> Mv {
     Mv {
-        row: signed(word(s)),
-        col: signed(word(part(s, 2, 2))),
+        row: i16::from_le_bytes(first(s)),
+        col: i16::from_le_bytes(first(part(s, 2, 2))),
     }
 }
 
 pub fn mvs_of(s: &[u8]) -> [Mv; 16] {
     let mut mvs = [Mv { row: 0, col: 0 }; 16];
-    let mut i: usize = 0;
-    while i < 16 {
-        mvs[i] = mv_of(part(s, 4 * i, 4));
-        i += 1;
+    for (mv, four) in mvs.iter_mut().zip(s.as_chunks::<4>().0) {
+        *mv = mv_of(four);
     }
     mvs
 }
@@ -61,86 +45,50 @@ pub fn mvs_of(s: &[u8]) -> [Mv; 16] {
 // A macroblock's numbers, Y2 first.
 pub fn numbers_of(s: &[u8]) -> [i16; 400] {
     let mut numbers = [0i16; 400];
-    let mut i: usize = 0;
-    while i < 400 {
-        numbers[i] = signed(word(part(s, 2 * i, 2)));
-        i += 1;
+    for (number, two) in numbers.iter_mut().zip(s.as_chunks::<2>().0) {
+        *number = i16::from_le_bytes(*two);
     }
     numbers
 }
 
 pub fn bytes_of(mv: Mv) -> [u8; 4] {
-    let row = bits(mv.row);
-    let col = bits(mv.col);
-    [
-        (row % 256) as u8,
-        (row / 256) as u8,
-        (col % 256) as u8,
-        (col / 256) as u8,
-    ]
-}
-
-// A list that is shorter than dst, and zeros after it.
-fn pad(dst: &mut [u8], src: &[u8]) {
-    let mut i: usize = 0;
-    while i < dst.len() {
-        dst[i] = byte_at(src, i);
-        i += 1;
-    }
+    let [a, b] = mv.row.to_le_bytes();
+    let [c, d] = mv.col.to_le_bytes();
+    [a, b, c, d]
 }
 
 // As much of src as dst has room for, and zeros after it.
 pub fn fill(dst: &mut [u8], src: &[u8]) {
-    if src.len() < dst.len() {
-        pad(dst, src);
-        return;
-    }
-    let mut i: usize = 0;
-    while i < dst.len() {
-        dst[i] = src[i];
-        i += 1;
-    }
+    let n = src.len().min(dst.len());
+    let (front, back) = dst.split_at_mut(n);
+    front.copy_from_slice(&src[..n]);
+    back.fill(0);
 }
 
-// Ends a call: its samples go to `out`, if there are as many as that has bytes.
-pub fn give(number: u32, samples: &[u8], out: &mut [u8]) -> u32 {
-    if samples.len() != out.len() {
+// Ends a call: what it made goes to `out`, or as many zeros where it refuses, if those are as many as that has bytes.
+pub fn give<const N: usize>(made: Result<[u8; N], Refusal>, out: &mut [u8]) -> u32 {
+    if out.len() != N {
         return 255;
     }
-    fill(out, samples);
-    number
-}
-
-// Ends a call that is refused where as many bytes are due.
-pub fn refuse(number: u32, due: usize, out: &mut [u8]) -> u32 {
-    if due != out.len() {
-        return 255;
+    match made {
+        Ok(samples) => {
+            out.copy_from_slice(&samples);
+            0
+        }
+        Err(refusal) => {
+            out.fill(0);
+            u32::from(refusal)
+        }
     }
-    fill(out, b"");
-    number
-}
-
-fn of_three(y: &[u8], u: &[u8], v: &[u8], i: usize) -> u8 {
-    if i < 256 {
-        return byte_at(y, i);
-    }
-    if i < 320 {
-        return byte_at(u, i - 256);
-    }
-    byte_at(v, i - 320)
 }
 
 // The samples of a macroblock in the order that C gets them in.
-pub fn flat(p: Prediction) -> [u8; 384] {
-    let samples = p.samples;
-    let y = samples.y;
-    let u = samples.u;
-    let v = samples.v;
+pub fn flat(samples: ReconstructedMb) -> [u8; 384] {
     let mut out = [0u8; 384];
-    let mut i: usize = 0;
-    while i < 384 {
-        out[i] = of_three(&y, &u, &v, i);
-        i += 1;
-    }
+    let (y, chroma) = out.split_at_mut(256);
+    let (u, v) = chroma.split_at_mut(64);
+    y.copy_from_slice(&samples.y);
+    u.copy_from_slice(&samples.u);
+    v.copy_from_slice(&samples.v);
     out
 }

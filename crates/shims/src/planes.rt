@@ -1,13 +1,18 @@
 // The fetches by the side of their square, 4x4 blocks, and a macroblock at whole pixels.
-use crate::bytes::{flat, give, refuse};
-use crate::codes::{no_code, set_of};
+use crate::bytes::{flat, give};
+use crate::codes::coded;
 use blocks::{
     fetch_block_halo, fetch_block_whole_pixel, fetch_chroma_mb_halo, fetch_chroma_mb_whole_pixel,
     fetch_luma_mb_halo, fetch_luma_mb_whole_pixel, filter_block_4x4, filter_block_4x4_into,
 };
+use numbers::{Refusal, number};
 use prediction::predict_inter_mb_whole_pixel;
-use refusals::{or_else, plane_refusal};
-use rfc6386::{Mv, Sizes};
+use refusals::plane_refusal;
+use rfc6386::{Fetched, Mv, Sizes};
+
+fn fetched<const AREA: usize>(got: Result<Fetched<AREA>, Refusal>, out: &mut [u8]) -> u32 {
+    give(got.map(|square| square.samples), out)
+}
 
 pub fn shim_fetch(
     size: u8,
@@ -23,43 +28,27 @@ pub fn shim_fetch(
 ) -> u32 {
     let mv = Mv { row, col };
     match size {
-        4 => {
-            let got = fetch_block_whole_pixel(plane, stride, w, h, x, y, mv);
-            let samples = got.samples;
-            give(got.number, &samples, out)
-        }
-        8 => {
-            let got = fetch_chroma_mb_whole_pixel(plane, stride, w, h, x, y, mv);
-            let samples = got.samples;
-            give(got.number, &samples, out)
-        }
-        9 => {
-            let got = fetch_block_halo(plane, stride, w, h, x, y, mv);
-            let samples = got.samples;
-            give(got.number, &samples, out)
-        }
-        13 => {
-            let got = fetch_chroma_mb_halo(plane, stride, w, h, x, y, mv);
-            let samples = got.samples;
-            give(got.number, &samples, out)
-        }
-        16 => {
-            let got = fetch_luma_mb_whole_pixel(plane, stride, w, h, x, y, mv);
-            let samples = got.samples;
-            give(got.number, &samples, out)
-        }
-        21 => {
-            let got = fetch_luma_mb_halo(plane, stride, w, h, x, y, mv);
-            let samples = got.samples;
-            give(got.number, &samples, out)
-        }
+        4 => fetched(fetch_block_whole_pixel(plane, stride, w, h, x, y, mv), out),
+        8 => fetched(
+            fetch_chroma_mb_whole_pixel(plane, stride, w, h, x, y, mv),
+            out,
+        ),
+        9 => fetched(fetch_block_halo(plane, stride, w, h, x, y, mv), out),
+        13 => fetched(fetch_chroma_mb_halo(plane, stride, w, h, x, y, mv), out),
+        16 => fetched(
+            fetch_luma_mb_whole_pixel(plane, stride, w, h, x, y, mv),
+            out,
+        ),
+        21 => fetched(fetch_luma_mb_halo(plane, stride, w, h, x, y, mv), out),
         _ => 255,
     }
 }
 
-// The number of a call whose code names no filter: the plane is looked at before the code, and a destination after it.
-fn without_code(plane: &[u8], stride: usize, w: usize, h: usize, x: usize, y: usize) -> u32 {
-    or_else(plane_refusal(plane, stride, w, h, x, y), 5)
+// Why a call whose code names no filter refuses: the plane is looked at before the code, and a destination after it.
+fn without_code(plane: &[u8], stride: usize, w: usize, h: usize, x: usize, y: usize) -> Refusal {
+    plane_refusal(plane, stride, w, h, x, y)
+        .err()
+        .unwrap_or(Refusal::Code)
 }
 
 pub fn shim_filter_block(
@@ -74,12 +63,11 @@ pub fn shim_filter_block(
     filter: u8,
     out: &mut [u8],
 ) -> u32 {
-    if no_code(filter) {
-        return refuse(without_code(plane, stride, w, h, x, y), 16, out);
-    }
-    let got = filter_block_4x4(plane, stride, w, h, x, y, Mv { row, col }, set_of(filter));
-    let samples = got.samples;
-    give(got.number, &samples, out)
+    let made = match coded(filter) {
+        Ok(set) => filter_block_4x4(plane, stride, w, h, x, y, Mv { row, col }, set),
+        Err(_) => Err(without_code(plane, stride, w, h, x, y)),
+    };
+    give(made.map(|block| block.samples), out)
 }
 
 pub fn shim_filter_block_into(
@@ -97,23 +85,23 @@ pub fn shim_filter_block_into(
     col: i16,
     filter: u8,
 ) -> u32 {
-    if no_code(filter) {
-        return without_code(plane, stride, w, h, x, y);
-    }
-    filter_block_4x4_into(
-        dst,
-        dst_stride,
-        dst_x,
-        dst_y,
-        plane,
-        stride,
-        w,
-        h,
-        x,
-        y,
-        Mv { row, col },
-        set_of(filter),
-    )
+    number(match coded(filter) {
+        Ok(set) => filter_block_4x4_into(
+            dst,
+            dst_stride,
+            dst_x,
+            dst_y,
+            plane,
+            stride,
+            w,
+            h,
+            x,
+            y,
+            Mv { row, col },
+            set,
+        ),
+        Err(_) => Err(without_code(plane, stride, w, h, x, y)),
+    })
 }
 
 pub fn shim_whole_pixel(
@@ -143,8 +131,6 @@ pub fn shim_whole_pixel(
         row: mv_row,
         col: mv_col,
     };
-    let report = predict_inter_mb_whole_pixel(y, u, v, sizes, mb_col, mb_row, mv, full_pixel != 0);
-    let p = report.prediction;
-    let samples = flat(p);
-    give(p.number, &samples, out)
+    let made = predict_inter_mb_whole_pixel(y, u, v, sizes, mb_col, mb_row, mv, full_pixel != 0);
+    give(made.map(|mb| flat(mb.samples)), out)
 }

@@ -1,20 +1,14 @@
 // The check sum of a file of recorded answers, and a number as such a file has it.
-use crate::bytes::{part, word};
+use crate::bytes::first;
 
 fn more(sum: u64, byte: u8) -> u64 {
-    (sum % 4294967291 * 31 + (byte as u64)) % 4294967291
+    (sum % 4294967291 * 31 + u64::from(byte)) % 4294967291
 }
 
 pub fn check_sum(s: &[u8]) -> u64 {
-    let mut sum: u64 = 0;
-    let mut i: usize = 0;
-    while i < s.len() {
-        sum = more(sum, s[i]);
-        i += 1;
-    }
-    sum
+    s.iter().fold(0, |sum, byte| more(sum, *byte))
 }
 
 pub fn long(s: &[u8]) -> u64 {
-    (word(s) as u64) + 65536 * (word(part(s, 2, 2)) as u64)
+    u64::from(u32::from_le_bytes(first(s)))
 }

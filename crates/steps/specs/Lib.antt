@@ -3,4 +3,5 @@ pub mod Taps
 pub mod Rows
 pub mod Tally
 pub mod Window
+pub mod View
 pub mod Side

@@ -1,5 +1,5 @@
 -- Six taps by their sizes.
-use Rattle.std.specs.Prelude.{◌≡◌, List, ℕ, ◌+◌, ◌*◌, ◌/◌, ◌≤◌, ℤ}
+use Rattle.std.specs.Prelude.{◌≡◌, List, ℕ, ◌+◌, ◌*◌, ◌/◌, ℤ}
 use Rattle.rfc6386.specs.Taps.{Sizes, signed}
 use Rattle.steps.specs.declared.taps.Taps.{Taps}
 
@@ -9,11 +9,6 @@ sizes_of t = record { a = t.a; b = t.b; c = t.c; d = t.d; e = t.e; f = t.f }
 -- the taps themselves
 abbrev pub signed_taps : Taps → List ℤ
 signed_taps t = signed (sizes_of t)
-
--- products with bytes, summed by sign, fit sixteen bits, and those that are subtracted thirteen
-pub record Small (t : Taps) : Type 0 where
-  pub plus : t.a + t.c + t.d + t.f ≤ 160
-  pub minus : t.b + t.e ≤ 32
 
 -- the two middle taps alone, which sum to 128: a step of them never leaves the bytes
 pub record Middle (t : Taps) : Type 0 where

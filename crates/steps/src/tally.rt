@@ -8,13 +8,11 @@ use rfc6386::{Clip, Clips};
 pub fn clip_of(p: u16) -> Clip
     ensures { (c : Clip) → p ≡ part c → result ≡ c }
 {
-    if p == 0 {
-        return Clip::None;
+    match p {
+        0 => Clip::None,
+        1 => Clip::High,
+        _ => Clip::Low,
     }
-    if p == 1 {
-        return Clip::High;
-    }
-    Clip::Low
 }
 
 // Both totals.

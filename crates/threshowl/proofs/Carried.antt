@@ -10,11 +10,13 @@ use lib.Seq.{get_or-append-add}
 use borrow.Author.Tests.{le-ltb}
 use mir.Syntax.{w16}
 use mir.Val.{SFits}
-use Rattle.rfc6386.specs.Vector.{Lowering, lowering_of, luma_vector, chroma_vector, mergeable}
+use Rattle.rfc6386.specs.Vector.{lowering_of, luma_vector, chroma_vector, mergeable}
+use Rattle.rfc6386.specs.declared.Lowering.{Lowering}
 use Rattle.rfc6386.specs.Filter.{version_set}
 use Rattle.rfc6386.specs.Picture.{image, block_by}
 use Rattle.rfc6386.specs.Refusal.{or_else, if_done, count_refusal, code_refusal, room_refusal}
-use Rattle.rfc6386.specs.Macroblock.{Reference, plane_y, plane_u, refusal, whole_samples, split_samples, no_samples, answered, whole, split}
+use Rattle.rfc6386.specs.Macroblock.{Reference, plane_y, plane_u, refusal, whole_samples, split_samples, answered, whole, split}
+use Rattle.rfc6386.specs.Answer.{no_samples, Prediction}
 use Rattle.rfc6386.specs.Version.{reserved_version, whole_by_version, split_by_version}
 use Rattle.rfc6386.specs.Telling.{sixteen, telling_sample}
 use Rattle.rfc6386.proofs.Carried.{Place, lent_at, OfTypes, telling_place, telling_typed, results_agree, results-differ}
@@ -32,7 +34,6 @@ use Rattle.threshowl.proofs.Laws.{codes_as}
 use Rattle.rfc6386.specs.declared.Mv.{Mv}
 use Rattle.rfc6386.specs.declared.FilterSet.{FilterSet}
 use Rattle.rfc6386.specs.declared.ReconstructedMb.{ReconstructedMb}
-use Rattle.rfc6386.specs.declared.Prediction.{Prediction}
 
 -- ---- what the contracts allow: the number r and the final bytes out' of an output that held out, where the codes besides the vectors get
 -- the number `codes`

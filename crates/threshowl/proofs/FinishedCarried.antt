@@ -23,7 +23,7 @@ use Rattle.threshowl.specs.Boundary.{set_of, flag_of, codes_refusal}
 use Rattle.threshowl.specs.Finished.{Finishes}
 use Rattle.vector_bytes.specs.Spelled.{sixteen_spelled, spelled_is}
 use Rattle.rfc6386.specs.declared.Mv.{Mv}
-use Rattle.rfc6386.specs.declared.Prediction.{Prediction}
+use Rattle.rfc6386.specs.Answer.{Prediction}
 
 -- ---- what the contracts allow: the number r and the final bytes out' of an output that held out
 -- of threshowl_reconstruct_whole

@@ -1,5 +1,5 @@
 -- Laws for the calls that finish a macroblock. Assumes nothing.
-use mathlib.Core.Path.{◌≡◌, refl, sym, ap, ap₂, ◌∙◌, subst}
+use mathlib.Core.Path.{◌≡◌, refl, sym, ap, ◌∙◌, subst}
 use mathlib.Core.Bool.{Bool, true, false, cond, ◌&&◌}
 use mathlib.Core.List.{List, ◌++◌, append_assoc}
 use Prim.Native.Nat.{ℕ, zero, suc, ◌+◌, ◌*◌}
@@ -10,12 +10,13 @@ use lib.IntN.{ℤ}
 use mir.Syntax.{w32}
 use mir.Val.{SFits, to_z, of_z}
 use mir.Facts.{to_z-of_z}
-use Rattle.rfc6386.specs.Vector.{Lowering, luma_vector, chroma_vector, is_whole}
+use Rattle.rfc6386.specs.Vector.{luma_vector, chroma_vector, is_whole}
+use Rattle.rfc6386.specs.declared.Lowering.{Lowering}
 use Rattle.rfc6386.specs.Picture.{image}
 use Rattle.rfc6386.specs.Raster.{tab}
 use Rattle.rfc6386.specs.Refusal.{or_else, if_done, room_refusal}
-use Rattle.rfc6386.specs.Macroblock.{Reference, plane_y, plane_u, plane_v, refusal, whole_samples, pixel_samples, no_samples, answered, whole, split, fraction_left}
-use Rattle.rfc6386.specs.Report.{whole_report, split_report}
+use Rattle.rfc6386.specs.Macroblock.{Reference, plane_y, plane_u, plane_v, refusal, whole_samples, pixel_samples, answered, whole, fraction_left}
+use Rattle.rfc6386.specs.Answer.{no_samples, Prediction}
 use Rattle.rfc6386.proofs.Laws.Raster.{is-tab}
 use Rattle.rfc6386.proofs.Laws.Refusals.{done, refused, or_else-zero}
 use Rattle.rfc6386.proofs.Laws.Halos.{whole-block}
@@ -24,14 +25,13 @@ use Rattle.residue.specs.Reconstruction.{finished_unless}
 use Rattle.residue.specs.Inner.{piece}
 use Rattle.quantisers.specs.Inner.{Offered}
 use Rattle.quantisers.proofs.Keeping.{unless_alike}
-use Rattle.outputs.specs.Output.{flat, call_number, Left, Told}
+use Rattle.outputs.specs.Output.{flat, call_number, Left}
 use Rattle.threshowl.specs.Finished.{late_number, Finishes, pixels_at, quantiser, finished_bytes}
-use Rattle.outputs.specs.Laws.{if-done, left_as, Counted, has_room, zeros}
+use Rattle.outputs.specs.Laws.{if-done, Counted, has_room, zeros}
 use Rattle.rfc6386.specs.declared.Mv.{Mv}
 use Rattle.rfc6386.specs.declared.FilterSet.{FilterSet}
 use Rattle.rfc6386.specs.declared.ReconstructedMb.{ReconstructedMb}
-use Rattle.rfc6386.specs.declared.Prediction.{Prediction}
-use Rattle.outputs.specs.declared.into.Ended.{Ended}
+use Rattle.quantisers.specs.declared.QuantIndices.{QuantIndices}
 
 -- ---- the samples of a macroblock
 -- part of a list that is two
@@ -78,9 +78,6 @@ module _ (p : Prediction) (codes late : ℕ) (skip : Bool) (c : List ℤ) (out :
   numbered : n ≡ late_number p codes late out
   numbered = L.number_is ∙ late_last p.number codes (room_refusal (length out)) late
 
-  kept : call_number p (or_else codes (or_else (room_refusal (length out)) late)) out ≡ late_number p codes late out
-  kept = late_last p.number codes (room_refusal (length out)) late
-
   -- a call that is refused
   pub finishes-refused : (n ≡ 0 → ⊥) → Finishes p codes late skip c out n out₁
   finishes-refused h =
@@ -111,28 +108,16 @@ module _ (p : Prediction) (codes late : ℕ) (skip : Bool) (c : List ℤ) (out :
               ∙ sym (done (flat (finished_unless skip c p.samples)) out (sym numbered ∙ z));
         }
 
--- ---- what a prediction leaves, at what its table, its vectors and its codes are, a number that comes after the room among them
-codes_are : (room : ℕ) {codes own own' late late' : ℕ} → codes ≡ or_else own (or_else (room_refusal room) late) → own ≡ own' → late ≡ late'
-    → codes ≡ or_else own' (or_else (room_refusal room) late')
-codes_are room f g h = f ∙ ap₂ (λ (k l : ℕ). or_else k (or_else (room_refusal room) l)) g h
-
-module _ (low : Lowering) (ref : Reference) (col row : ℕ) (out : List ℕ) {set set' : FilterSet} {codes own own' late late' : ℕ} {out' : List ℕ} {ended : Ended}
-    (e : set ≡ set') (f : codes ≡ or_else own (or_else (room_refusal (length out)) late)) (g : own ≡ own') (h : late ≡ late') where
-  pub whole_left : {v v' : Mv} → v ≡ v' → Told (whole_report set low ref col row v) codes out ended out'
-      → Left (whole set' low ref col row v') (or_else own' (or_else (room_refusal (length out)) late')) out ended.number out'
-  unfolding whole_report
-  whole_left k t = left_as (ap₂ (λ (s : FilterSet) (m : Mv). whole s low ref col row m) e k) (codes_are (length out) f g h) t.leaves
-
-  pub split_left : {vs vs' : List Mv} → vs ≡ vs' → Told (split_report set low ref col row vs) codes out ended out'
-      → Left (split set' low ref col row vs') (or_else own' (or_else (room_refusal (length out)) late')) out ended.number out'
-  unfolding split_report
-  split_left k t = left_as (ap₂ (λ (s : FilterSet) (m : List Mv). split s low ref col row m) e k) (codes_are (length out) f g h) t.leaves
-
 -- ---- said otherwise
-pub finishes_as : {p q : Prediction} {codes codes' late late' : ℕ} {skip : Bool} {c : List ℤ} {out : List ℕ} {r : ℕ} {out' : List ℕ} → p ≡ q → codes ≡ codes' → late ≡ late'
-    → Finishes p codes late skip c out r out' → Finishes q codes' late' skip c out r out'
-finishes_as {skip = skip} {c} {out} {r} {out'} e f g h =
-    subst (λ (x : Prediction × ℕ × ℕ). Finishes x.0 x.1 x.2 skip c out r out') (λ i. (e i, f i, g i)) h
+-- codes with a number after that of the room, where that is said otherwise
+pub codes_are : (own room : ℕ) {codes late late' : ℕ} → codes ≡ or_else own (or_else (room_refusal room) late) → late ≡ late'
+    → codes ≡ or_else own (or_else (room_refusal room) late')
+codes_are own room f h = f ∙ ap (λ (l : ℕ). or_else own (or_else (room_refusal room) l)) h
+
+pub finishes_as : {p q : Prediction} {codes codes' late late' : ℕ} {skip : Bool} {c : List ℤ} {out : List ℕ} {r r' : ℕ} {out' : List ℕ} → p ≡ q → codes ≡ codes' → late ≡ late' → r' ≡ r
+    → Finishes p codes late skip c out r out' → Finishes q codes' late' skip c out r' out'
+finishes_as {skip = skip} {c} {out} {out' = out'} e f g k h =
+    subst (λ (x : Prediction × ℕ × ℕ × ℕ). Finishes x.0 x.1 x.2 skip c out x.3 out') (λ i. (e i, f i, g i, sym k i)) h
 
 -- a vector that leaves no fraction predicts at whole pixels
 module _ (set : FilterSet) (low : Lowering) (ref : Reference) (col row : ℕ) (v : Mv) where
@@ -186,7 +171,9 @@ module _ {refusal : Bool → List ℤ → ℕ} {used : List ℤ → List ℤ} {s
             ∙ if-done (or_else call late) out (λ z. ap flat (unless_alike skip O (zeros first (refusal skip p) (zeros call late z)) P.samples));
       }
 
--- base index and deltas, as they are read back
-pub same-quantiser : {a b c d e f : ℤ} → SFits w32 a → SFits w32 b → SFits w32 c → SFits w32 d → SFits w32 e → SFits w32 f
-    → quantiser (to_z w32 (of_z w32 a)) (to_z w32 (of_z w32 b)) (to_z w32 (of_z w32 c)) (to_z w32 (of_z w32 d)) (to_z w32 (of_z w32 e)) (to_z w32 (of_z w32 f)) ≡ quantiser a b c d e f
-same-quantiser p q r s t u = λ i. quantiser (to_z-of_z p i) (to_z-of_z q i) (to_z-of_z r i) (to_z-of_z s i) (to_z-of_z t i) (to_z-of_z u i)
+-- what holds of base index and deltas as they are read back holds of them
+pub of_quantiser : (P : QuantIndices → Type 0) {a b c d e f : ℤ} → SFits w32 a → SFits w32 b → SFits w32 c → SFits w32 d → SFits w32 e → SFits w32 f
+    → P (quantiser (to_z w32 (of_z w32 a)) (to_z w32 (of_z w32 b)) (to_z w32 (of_z w32 c)) (to_z w32 (of_z w32 d)) (to_z w32 (of_z w32 e)) (to_z w32 (of_z w32 f)))
+    → P (quantiser a b c d e f)
+of_quantiser P p q r s t u =
+    subst P (λ i. quantiser (to_z-of_z p i) (to_z-of_z q i) (to_z-of_z r i) (to_z-of_z s i) (to_z-of_z t i) (to_z-of_z u i))

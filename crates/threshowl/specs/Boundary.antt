@@ -1,16 +1,20 @@
 -- What crosses the boundary: codes and flags, and what a call asks for by them.
-use Rattle.std.specs.Prelude.{Bool, not, cond, List, ℕ, zero, suc, eqb, ltb, ℤ}
-use Rattle.rfc6386.specs.Vector.{Lowering, lowering_of, sent}
+use Rattle.std.specs.Prelude.{Bool, not, cond, List, ℕ, zero, suc, eqb, ltb, ℤ, Result, Ok, Err}
+use Rattle.rfc6386.specs.Vector.{lowering_of, sent}
+use Rattle.rfc6386.specs.declared.Lowering.{Lowering}
 use Rattle.rfc6386.specs.Refusal.{or_else, code_refusal, count_refusal, room_refusal}
 use Rattle.rfc6386.specs.Macroblock.{Reference, lent, whole, split}
 use Rattle.rfc6386.specs.Report.{is_one, whole_report, split_report, merging_report, quarters_report}
 use Rattle.vector_bytes.specs.Bytes.{vectors_of}
 use Rattle.rfc6386.specs.declared.Mv.{Mv}
-use Rattle.rfc6386.specs.declared.Report.{Report}
+use Rattle.rfc6386.specs.Answer.{Prediction, Report}
 use Rattle.rfc6386.specs.declared.FilterSet.{FilterSet}
 use Rattle.rfc6386.specs.declared.FilterSet.TheVariants.{Sixtap, Bilinear}
-use Rattle.rfc6386.specs.declared.Prediction.{Prediction}
 use Rattle.frame.specs.declared.Frame.{Frame}
+use Rattle.numbers.specs.declared.Refusal.{Refusal}
+use Rattle.numbers.specs.declared.Refusal.TheVariants.{Orders}
+use Rattle.threshowl.specs.declared.report.Kind.{Kind}
+use Rattle.threshowl.specs.declared.report.Kind.TheVariants.{Whole, Split, Merging, Quarters}
 
 -- ---- codes
 -- a filter's code: six-tap has 0 and bilinear 1
@@ -44,12 +48,21 @@ split_by filter full ref mb-col mb-row vectors = split (set_of filter) (lowering
 abbrev pub kind_refusal : ℕ → ℕ
 kind_refusal kind = cond (ltb 3 kind) 9 0
 
--- merging is whole or split
-abbrev pub kind_of : ℕ → List Mv → ℕ
-kind_of zero vs = zero
-kind_of (suc zero) vs = suc zero
-kind_of (suc (suc zero)) vs = cond (is_one vs) 0 1
-kind_of (suc (suc (suc n))) vs = suc (suc (suc n))
+-- the kind of a code
+abbrev pub kind_coded : ℕ → Result Kind Refusal
+kind_coded zero = Ok Whole
+kind_coded (suc zero) = Ok Split
+kind_coded (suc (suc zero)) = Ok Merging
+kind_coded (suc (suc (suc zero))) = Ok Quarters
+kind_coded (suc (suc (suc (suc n)))) = Err Orders
+
+-- the kind that a call goes by: merging is whole or split, and a kind that there is not goes by quarters until it is refused
+abbrev pub called : Result Kind Refusal → List Mv → Kind
+called (Ok Whole) vs = Whole
+called (Ok Split) vs = Split
+called (Ok Merging) vs = cond (is_one vs) Whole Split
+called (Ok Quarters) vs = Quarters
+called (Err e) vs = Quarters
 
 abbrev pub report_codes : ℕ → ℕ → ℕ → ℕ → ℕ
 report_codes filter count room kind = or_else (codes_refusal filter count) (or_else (room_refusal room) (kind_refusal kind))

@@ -1,6 +1,6 @@
 -- What the calls leave that finish a macroblock: as those that predict it, with the residue added, and with a number that comes after all others.
 use Rattle.std.specs.Prelude.{◌≡◌, Bool, cond, List, ◌++◌, ℕ, ℤ}
-use Rattle.rfc6386.specs.Vector.{Lowering}
+use Rattle.rfc6386.specs.declared.Lowering.{Lowering}
 use Rattle.rfc6386.specs.Refusal.{or_else, if_done}
 use Rattle.rfc6386.specs.Macroblock.{Reference, refusal, pixel_samples, answered}
 use Rattle.residue.specs.Coefficients.{finished_plane}
@@ -9,7 +9,7 @@ use Rattle.residue.specs.Inner.{piece}
 use Rattle.outputs.specs.Output.{flat, call_number}
 use Rattle.quantisers.specs.declared.QuantIndices.{QuantIndices}
 use Rattle.rfc6386.specs.declared.Mv.{Mv}
-use Rattle.rfc6386.specs.declared.Prediction.{Prediction}
+use Rattle.rfc6386.specs.Answer.{Prediction}
 
 -- the number of a call whose prediction, codes and output are refused as ever, and after them `late`
 abbrev pub late_number : Prediction → ℕ → ℕ → List ℕ → ℕ

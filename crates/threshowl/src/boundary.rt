@@ -1,30 +1,41 @@
 // Prediction for C: numbers, bytes, and an output of 384 bytes that a refused call leaves as it was. A slice is a pointer and a length.
 ghost use Rattle.std.specs.Prelude.{◌≡◌, length};
+ghost use Rattle.numbers.specs.Outcome.{told};
 ghost use Rattle.rfc6386.specs.Refusal.{code_refusal};
-ghost use Rattle.outputs.specs.Output.{Left};
+ghost use Rattle.outputs.specs.Output.{Left, ended_told};
 ghost use Rattle.threshowl.specs.Boundary.{set_of, codes_refusal, picture_of, whole_by, split_by};
 
-use motion_vectors::are_one;
-use outputs::{quarters_into, split_into, whole_into};
-use refusals::{code_refusal, count_refusal, or_else};
+use motion_vectors::{are_one, lowering_of};
+use numbers::Refusal;
+use outputs::{Ended, quarters_into, split_into, whole_into};
+use refusals::{code_refusal, count_refusal};
 use rfc6386::{FilterSet, Mv, Sizes};
 use vector_bytes::mvs_of_bytes;
 
+// Not a TryFrom: a code that there is not still has a table, since its refusal comes after those of the planes.
 pub fn set_of(filter: u8) -> FilterSet
     ensures { result ≡ set_of filter }
 {
-    if filter == 0 {
-        return FilterSet::Sixtap;
+    match filter {
+        0 => FilterSet::Sixtap,
+        _ => FilterSet::Bilinear,
     }
-    FilterSet::Bilinear
 }
 
-pub fn codes_refusal(filter: u8, count: usize) -> u32
-    ensures { result ≡ codes_refusal filter count }
+pub fn codes_refusal(filter: u8, count: usize) -> Result<(), Refusal>
+    ensures { told result ≡ codes_refusal filter count }
 {
-    let code = code_refusal(filter);
-    let vectors = count_refusal(64, count);
-    or_else(code, vectors)
+    code_refusal(filter).and(count_refusal(64, count))
+}
+
+// The number of a call that writes its samples to an output.
+pub fn ended_number(ended: Result<Ended, Refusal>) -> u32
+    ensures { result ≡ (ended_told ended).number }
+{
+    match ended {
+        Ok(_) => 0,
+        Err(refusal) => u32::from(refusal),
+    }
 }
 
 #[unsafe(no_mangle)]
@@ -58,8 +69,7 @@ pub extern "C" fn threshowl_predict_whole(
         row: mv_row,
         col: mv_col,
     };
-    let lower = full_pixel != 0;
-    let ended = whole_into(
+    ended_number(whole_into(
         y,
         u,
         v,
@@ -67,13 +77,11 @@ pub extern "C" fn threshowl_predict_whole(
         mb_col,
         mb_row,
         mv,
-        lower,
-        lower,
+        lowering_of(full_pixel != 0),
         set_of(filter),
         code_refusal(filter),
         out,
-    );
-    ended.number
+    ))
 }
 
 #[unsafe(no_mangle)]
@@ -102,8 +110,7 @@ pub extern "C" fn threshowl_predict_split(
         mb_cols,
         mb_rows,
     };
-    let lower = full_pixel != 0;
-    let ended = split_into(
+    ended_number(split_into(
         y,
         u,
         v,
@@ -111,13 +118,11 @@ pub extern "C" fn threshowl_predict_split(
         mb_col,
         mb_row,
         mvs_of_bytes(vectors),
-        lower,
-        lower,
+        lowering_of(full_pixel != 0),
         set_of(filter),
         codes_refusal(filter, vectors.len()),
         out,
-    );
-    ended.number
+    ))
 }
 
 // Split prediction, by the whole call where the sixteen vectors are one.
@@ -182,7 +187,7 @@ pub extern "C" fn threshowl_predict_quarters(
         mb_rows,
     };
     let codes = codes_refusal(filter, vectors.len());
-    let ended = quarters_into(
+    ended_number(quarters_into(
         y,
         u,
         v,
@@ -194,6 +199,5 @@ pub extern "C" fn threshowl_predict_quarters(
         set_of(filter),
         codes,
         out,
-    );
-    ended.number
+    ))
 }

@@ -8,12 +8,13 @@ ghost use Rattle.vector_bytes.specs.Bytes.{vectors_of};
 ghost use Rattle.outputs.specs.Output.{Left};
 ghost use Rattle.threshowl.specs.Boundary.{flag_of, picture_of};
 
-use numbers::VERSION;
+use crate::boundary::ended_number;
+use numbers::Refusal;
 use outputs::{split_into, whole_into};
 use refusals::count_refusal;
 use rfc6386::{Mv, Sizes};
 use vector_bytes::mvs_of_bytes;
-use versions::{lowers_luma, profile_for_version};
+use versions::{lowering_by, profile_for_version};
 
 #[unsafe(no_mangle)]
 pub extern "C" fn threshowl_predict_whole_by_version(
@@ -37,9 +38,8 @@ pub extern "C" fn threshowl_predict_whole_by_version(
 {
     let profile = profile_for_version(version);
     if profile.reserved {
-        return VERSION;
+        return u32::from(Refusal::Version);
     }
-    let set = profile.set;
     let sizes = Sizes {
         y_stride,
         u_stride,
@@ -51,7 +51,7 @@ pub extern "C" fn threshowl_predict_whole_by_version(
         row: mv_row,
         col: mv_col,
     };
-    let ended = whole_into(
+    ended_number(whole_into(
         y,
         u,
         v,
@@ -59,13 +59,11 @@ pub extern "C" fn threshowl_predict_whole_by_version(
         mb_col,
         mb_row,
         mv,
-        lowers_luma(profile.full_pixel, standard != 0),
-        profile.full_pixel,
-        set,
-        0,
+        lowering_by(profile.full_pixel, standard != 0),
+        profile.set,
+        Ok(()),
         out,
-    );
-    ended.number
+    ))
 }
 
 #[unsafe(no_mangle)]
@@ -89,9 +87,8 @@ pub extern "C" fn threshowl_predict_split_by_version(
 {
     let profile = profile_for_version(version);
     if profile.reserved {
-        return VERSION;
+        return u32::from(Refusal::Version);
     }
-    let set = profile.set;
     let sizes = Sizes {
         y_stride,
         u_stride,
@@ -99,7 +96,7 @@ pub extern "C" fn threshowl_predict_split_by_version(
         mb_cols,
         mb_rows,
     };
-    let ended = split_into(
+    ended_number(split_into(
         y,
         u,
         v,
@@ -107,11 +104,9 @@ pub extern "C" fn threshowl_predict_split_by_version(
         mb_col,
         mb_row,
         mvs_of_bytes(vectors),
-        lowers_luma(profile.full_pixel, standard != 0),
-        profile.full_pixel,
-        set,
+        lowering_by(profile.full_pixel, standard != 0),
+        profile.set,
         count_refusal(64, vectors.len()),
         out,
-    );
-    ended.number
+    ))
 }

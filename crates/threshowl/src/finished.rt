@@ -1,39 +1,47 @@
 // Decoded macroblocks for C: a prediction, written to the output as those of `boundary` are, and the residue added to it there. The coefficients are
 // tested before anything is written, and their number, 11, is given after all others.
 ghost use Rattle.std.specs.Prelude.{◌≡◌, length};
+ghost use Rattle.numbers.specs.Outcome.{told};
 ghost use Rattle.rfc6386.specs.Vector.{lowering_of};
 ghost use Rattle.rfc6386.specs.Refusal.{or_else, code_refusal, room_refusal};
-ghost use Rattle.rfc6386.specs.Macroblock.{fraction_left};
+ghost use Rattle.rfc6386.specs.Macroblock.{lent, whole, split, fraction_left};
 ghost use Rattle.residue.specs.Coefficients as coefficient;
 ghost use Rattle.residue.specs.Coefficients.{whole_refusal, split_refusal};
 ghost use Rattle.threshowl.specs.Boundary.{flag_of, codes_refusal, picture_of, whole_by, split_by};
 ghost use Rattle.threshowl.specs.Finished.{Finishes, pixels_at, finished_bytes};
 
 use crate::boundary::{codes_refusal, set_of};
-use motion_vectors::{chroma_vector, luma_vector};
+use motion_vectors::{chroma_vector, lowering_of, luma_vector};
+use numbers::{Refusal, number};
 use outputs::{split_into, whole_into};
 use prediction::fraction_left;
-use refusals::{code_refusal, or_else, room_refusal};
+use refusals::{code_refusal, room_refusal};
 use residue::{finish_samples, seeded, split_refusal, whole_refusal};
-use rfc6386::{FilterSet, Mv, Sizes};
+use rfc6386::{FilterSet, Lowering, Mv, Sizes};
 use vector_bytes::mvs_of_bytes;
 
 // Number 8 for a vector that leaves a fraction.
-pub fn fraction_refusal(mv: Mv, full_pixel: bool) -> u32
-    ensures { result ≡ fraction_left (lowering_of full_pixel) mv }
+pub fn fraction_refusal(mv: Mv, full_pixel: bool) -> Result<(), Refusal>
+    ensures { told result ≡ fraction_left (lowering_of full_pixel) mv }
 {
     let luma = luma_vector(mv, full_pixel);
     let chroma = chroma_vector(mv, full_pixel);
     fraction_left(luma, chroma)
 }
 
-// Codes for a call that predicts: with a number after that of the output's room, it writes nothing where that number is not 0.
-pub fn with_late(codes: u32, room: usize, late: u32) -> u32
-    ensures { result ≡ or_else codes (or_else (room_refusal room) late) }
+// Codes for a call that predicts: with a refusal after that of the output's room, where it writes nothing.
+#[tactic(auto, using(crate::proofs::Laws::told_and))]
+pub fn with_late(
+    codes: Result<(), Refusal>,
+    room: usize,
+    late: Result<(), Refusal>,
+) -> Result<(), Refusal>
+    ensures { told result ≡ or_else (told codes) (or_else (room_refusal room) (told late)) }
 {
-    or_else(codes, or_else(room_refusal(room), late))
+    codes.and(room_refusal(room).and(late))
 }
 
+// Whole and split are two functions each time, as in `reconstruction`: they differ in what refuses and in Y2. The output is a slice, as C lends it.
 pub fn finish_whole(out: &mut [u8], c: &[i16], skip: bool)
     requires { (length out.old ≡ 384) × (whole_refusal skip c.now ≡ 0) }
     ensures { out.new ≡ finished_bytes skip (coefficient.seeded c.now) out.old }
@@ -53,6 +61,60 @@ fn finish_split(out: &mut [u8], c: &[i16], skip: bool)
         return;
     }
     finish_samples(out, c);
+}
+
+// Whole prediction, finished. `fraction` is the refusal of a vector that leaves one, which comes after that of the output's room.
+fn whole_finished(
+    y: &[u8],
+    u: &[u8],
+    v: &[u8],
+    sizes: Sizes,
+    mb_col: usize,
+    mb_row: usize,
+    mv: Mv,
+    lowering: Lowering,
+    set: FilterSet,
+    codes: Result<(), Refusal>,
+    fraction: Result<(), Refusal>,
+    skip: bool,
+    coefficients: &[i16],
+    out: &mut [u8],
+) -> Result<(), Refusal>
+    ensures { Finishes (whole set lowering (lent y.now u.now v.now sizes) mb_col mb_row mv) (told codes) (or_else (told fraction) (whole_refusal skip coefficients.now)) skip (coefficient.seeded coefficients.now) out.old (told result) out.new }
+{
+    let late = fraction.and(whole_refusal(skip, coefficients));
+    let codes = with_late(codes, out.len(), late);
+    whole_into(
+        y, u, v, sizes, mb_col, mb_row, mv, lowering, set, codes, out,
+    )?;
+    finish_whole(out, coefficients, skip);
+    Ok(())
+}
+
+// Split prediction, finished.
+fn split_finished(
+    y: &[u8],
+    u: &[u8],
+    v: &[u8],
+    sizes: Sizes,
+    mb_col: usize,
+    mb_row: usize,
+    mvs: [Mv; 16],
+    lowering: Lowering,
+    set: FilterSet,
+    codes: Result<(), Refusal>,
+    skip: bool,
+    coefficients: &[i16],
+    out: &mut [u8],
+) -> Result<(), Refusal>
+    ensures { Finishes (split set lowering (lent y.now u.now v.now sizes) mb_col mb_row mvs) (told codes) (split_refusal skip coefficients.now) skip coefficients.now out.old (told result) out.new }
+{
+    let codes = with_late(codes, out.len(), split_refusal(skip, coefficients));
+    split_into(
+        y, u, v, sizes, mb_col, mb_row, mvs, lowering, set, codes, out,
+    )?;
+    finish_split(out, coefficients, skip);
+    Ok(())
 }
 
 #[unsafe(no_mangle)]
@@ -88,10 +150,7 @@ pub extern "C" fn threshowl_reconstruct_whole(
         row: mv_row,
         col: mv_col,
     };
-    let lower = full_pixel != 0;
-    let late = whole_refusal(skip != 0, coefficients);
-    let codes = with_late(code_refusal(filter), out.len(), late);
-    let ended = whole_into(
+    number(whole_finished(
         y,
         u,
         v,
@@ -99,17 +158,14 @@ pub extern "C" fn threshowl_reconstruct_whole(
         mb_col,
         mb_row,
         mv,
-        lower,
-        lower,
+        lowering_of(full_pixel != 0),
         set_of(filter),
-        codes,
+        code_refusal(filter),
+        Ok(()),
+        skip != 0,
+        coefficients,
         out,
-    );
-    if ended.number != 0 {
-        return ended.number;
-    }
-    finish_whole(out, coefficients, skip != 0);
-    0
+    ))
 }
 
 #[unsafe(no_mangle)]
@@ -144,11 +200,7 @@ pub extern "C" fn threshowl_reconstruct_whole_pixel(
         row: mv_row,
         col: mv_col,
     };
-    let lower = full_pixel != 0;
-    let fraction = fraction_refusal(mv, lower);
-    let late = or_else(fraction, whole_refusal(skip != 0, coefficients));
-    let codes = with_late(0, out.len(), late);
-    let ended = whole_into(
+    number(whole_finished(
         y,
         u,
         v,
@@ -156,17 +208,14 @@ pub extern "C" fn threshowl_reconstruct_whole_pixel(
         mb_col,
         mb_row,
         mv,
-        lower,
-        lower,
+        lowering_of(full_pixel != 0),
         FilterSet::Sixtap,
-        codes,
+        Ok(()),
+        fraction_refusal(mv, full_pixel != 0),
+        skip != 0,
+        coefficients,
         out,
-    );
-    if ended.number != 0 {
-        return ended.number;
-    }
-    finish_whole(out, coefficients, skip != 0);
-    0
+    ))
 }
 
 #[unsafe(no_mangle)]
@@ -197,10 +246,7 @@ pub extern "C" fn threshowl_reconstruct_split(
         mb_cols,
         mb_rows,
     };
-    let lower = full_pixel != 0;
-    let late = split_refusal(skip != 0, coefficients);
-    let codes = with_late(codes_refusal(filter, vectors.len()), out.len(), late);
-    let ended = split_into(
+    number(split_finished(
         y,
         u,
         v,
@@ -208,15 +254,11 @@ pub extern "C" fn threshowl_reconstruct_split(
         mb_col,
         mb_row,
         mvs_of_bytes(vectors),
-        lower,
-        lower,
+        lowering_of(full_pixel != 0),
         set_of(filter),
-        codes,
+        codes_refusal(filter, vectors.len()),
+        skip != 0,
+        coefficients,
         out,
-    );
-    if ended.number != 0 {
-        return ended.number;
-    }
-    finish_split(out, coefficients, skip != 0);
-    0
+    ))
 }

@@ -5,6 +5,7 @@ ghost use Rattle.threshowl.specs.Boundary.{frame_of};
 
 use crate::boundary::set_of;
 use frame::{Frame, Strides, predict_frame};
+use numbers::number;
 use refusals::code_refusal;
 use rfc6386::Sizes;
 
@@ -54,7 +55,7 @@ pub extern "C" fn threshowl_predict_frame<'a>(
         set: set_of(filter),
         full_pixel: full_pixel != 0,
     };
-    predict_frame(
+    number(predict_frame(
         last_y,
         last_u,
         last_v,
@@ -70,5 +71,5 @@ pub extern "C" fn threshowl_predict_frame<'a>(
         out_y,
         out_u,
         out_v,
-    )
+    ))
 }

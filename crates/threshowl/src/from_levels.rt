@@ -1,5 +1,5 @@
-// Decoded macroblocks for C, from quantised levels: the coefficients that they stand for are made, and finished with as those of `finished` are. Whole and
-// split call the function of that form there; at whole pixels a second caller would keep it from being inlined in the first.
+// Decoded macroblocks for C, from quantised levels: the coefficients that they stand for are made, and each function calls its like of `finished`
+// with them.
 ghost use Rattle.std.specs.Prelude.{length};
 ghost use Rattle.rfc6386.specs.Vector.{lowering_of};
 ghost use Rattle.rfc6386.specs.Refusal.{or_else, code_refusal};
@@ -10,14 +10,9 @@ ghost use Rattle.threshowl.specs.Boundary.{flag_of, codes_refusal, picture_of, w
 ghost use Rattle.threshowl.specs.Finished.{Finishes, pixels_at, quantiser};
 
 use crate::finished::{
-    finish_whole, fraction_refusal, threshowl_reconstruct_split, threshowl_reconstruct_whole,
-    with_late,
+    threshowl_reconstruct_split, threshowl_reconstruct_whole, threshowl_reconstruct_whole_pixel,
 };
-use outputs::whole_into;
 use quantisers::{QuantIndices, split_coefficients, whole_coefficients};
-use refusals::or_else;
-use residue::whole_refusal;
-use rfc6386::{FilterSet, Mv, Sizes};
 
 #[unsafe(no_mangle)]
 pub extern "C" fn threshowl_reconstruct_whole_from_levels(
@@ -113,42 +108,26 @@ pub extern "C" fn threshowl_reconstruct_whole_pixel_from_levels(
         uv_dc_delta,
         uv_ac_delta,
     };
-    let sizes = Sizes {
+    let mut c = [0i16; 400];
+    let n = whole_coefficients(skip != 0, levels, indices, &mut c);
+    threshowl_reconstruct_whole_pixel(
+        y,
+        u,
+        v,
         y_stride,
         u_stride,
         v_stride,
         mb_cols,
         mb_rows,
-    };
-    let mv = Mv {
-        row: mv_row,
-        col: mv_col,
-    };
-    let lower = full_pixel != 0;
-    let mut c = [0i16; 400];
-    let n = whole_coefficients(skip != 0, levels, indices, &mut c);
-    let fraction = fraction_refusal(mv, lower);
-    let late = or_else(fraction, whole_refusal(skip != 0, &c[..n]));
-    let codes = with_late(0, out.len(), late);
-    let ended = whole_into(
-        y,
-        u,
-        v,
-        sizes,
         mb_col,
         mb_row,
-        mv,
-        lower,
-        lower,
-        FilterSet::Sixtap,
-        codes,
+        mv_row,
+        mv_col,
+        full_pixel,
+        skip,
+        &c[..n],
         out,
-    );
-    if ended.number != 0 {
-        return ended.number;
-    }
-    finish_whole(out, &c[..n], skip != 0);
-    0
+    )
 }
 
 #[unsafe(no_mangle)]

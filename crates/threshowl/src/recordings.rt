@@ -13,9 +13,18 @@ pub extern "C" fn threshowl_ivf_mend(
 ) -> u32
     ensures { Mends file.now out.old (record { number = result; old_count = old_count.new; new_count = new_count.new; dropped = dropped.new }) out.new }
 {
-    let m = mend(file, out);
-    *old_count = m.old_count;
-    *new_count = m.new_count;
-    *dropped = m.dropped;
-    m.number
+    match mend(file, out) {
+        Ok(m) => {
+            *old_count = m.old_count;
+            *new_count = m.new_count;
+            *dropped = m.dropped;
+            0
+        }
+        Err(refusal) => {
+            *old_count = 0;
+            *new_count = 0;
+            *dropped = 0;
+            u32::from(refusal)
+        }
+    }
 }

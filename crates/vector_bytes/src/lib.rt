@@ -10,11 +10,7 @@ use rfc6386::Mv;
 pub fn read_i16(low: u8, high: u8) -> i16
     ensures { result ≡ int16 low high }
 {
-    let n = (low as u16) + 256 * (high as u16);
-    if n < 32768 {
-        return n as i16;
-    }
-    -1 - ((65535 - n) as i16)
+    i16::from_le_bytes([low, high])
 }
 
 // Sixteen vectors from 64 bytes. Zeros from any other number of bytes, so that a call still has a prediction, whose number comes before that of
@@ -26,13 +22,11 @@ pub fn mvs_of_bytes(b: &[u8]) -> [Mv; 16]
     if b.len() != 64 {
         return mvs;
     }
-    let mut i: usize = 0;
-    while i < 16 {
+    for i in 0..16 {
         let at = 4 * i;
         let row = read_i16(b[at], b[at + 1]);
         let col = read_i16(b[at + 2], b[at + 3]);
         mvs[i] = Mv { row, col };
-        i += 1;
     }
     mvs
 }

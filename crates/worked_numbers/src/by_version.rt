@@ -1,6 +1,5 @@
 // Prediction by version, with every version number: on good input, in both modes, and with every other fault at once.
-use crate::macroblocks::say;
-use crate::say::{labelled, text};
+use crate::say::macroblock;
 use rfc6386::{Mv, Sizes};
 use std::io;
 use versions::{predict_inter_mb_by_version, predict_split_mv_by_version};
@@ -15,16 +14,9 @@ fn both(
     standard: bool,
 ) -> io::Result<()> {
     let mv = Mv { row: 0, col: 0 };
-    say(
-        rt,
-        b" whole ",
-        predict_inter_mb_by_version(y, uv, uv, sizes, at, at, mv, version, standard),
-    )?;
-    say(
-        rt,
-        b", split ",
-        predict_split_mv_by_version(y, uv, uv, sizes, at, at, [mv; 16], version, standard),
-    )
+    let whole = predict_inter_mb_by_version(y, uv, uv, sizes, at, at, mv, version, standard);
+    let split = predict_split_mv_by_version(y, uv, uv, sizes, at, at, [mv; 16], version, standard);
+    print!(rt; " whole {}, split {}", macroblock(whole), macroblock(split))
 }
 
 fn line(rt: &HostRuntime, version: u8) -> io::Result<()> {
@@ -42,21 +34,18 @@ fn line(rt: &HostRuntime, version: u8) -> io::Result<()> {
         mb_cols: 0,
         mb_rows: 0,
     };
-    labelled(rt, b"version ", version as usize)?;
-    text(rt, b":")?;
+    print!(rt; "version {version}:")?;
     both(rt, &[200u8; 256], &[200u8; 64], good, 0, version, false)?;
-    text(rt, b"; by the standard:")?;
+    print!(rt; "; by the standard:")?;
     both(rt, &[200u8; 256], &[200u8; 64], good, 0, version, true)?;
-    text(rt, b"; nothing in order:")?;
+    print!(rt; "; nothing in order:")?;
     both(rt, b"", b"", bad, 1, version, true)?;
-    text(rt, b"\n")
+    println!(rt; "")
 }
 
 pub fn all(rt: &HostRuntime) -> io::Result<()> {
-    let mut version: u8 = 0;
-    while version < 255 {
+    for version in 0..=255u8 {
         line(rt, version)?;
-        version += 1;
     }
-    line(rt, 255)
+    Ok(())
 }

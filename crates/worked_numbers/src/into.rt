@@ -1,6 +1,7 @@
 // `filter_block_4x4_into` at the limits of its destination, which is all zeros before.
-use crate::say::{labelled, not_zero, outcome, text};
+use crate::say::{Outcome, not_zero};
 use blocks::filter_block_4x4_into;
+use numbers::number;
 use rfc6386::{FilterSet, Mv};
 use std::io;
 
@@ -16,14 +17,15 @@ fn block(
     let plane = [200u8; 16];
     let mv = Mv { row: 0, col: 0 };
     let set = FilterSet::Sixtap;
-    let number = filter_block_4x4_into(dst, stride, x, y, &plane, 4, 4, 4, blk_x, 0, mv, set);
-    labelled(rt, b"block at column ", blk_x)?;
-    labelled(rt, b" into ", dst.len())?;
-    labelled(rt, b" bytes, stride ", stride)?;
-    labelled(rt, b", at ", x)?;
-    labelled(rt, b" ", y)?;
-    outcome(rt, b": ", number, not_zero(dst))?;
-    text(rt, b"\n")
+    let made = filter_block_4x4_into(dst, stride, x, y, &plane, 4, 4, 4, blk_x, 0, mv, set);
+    let outcome = Outcome {
+        number: number(made),
+        samples: not_zero(dst),
+    };
+    println!(rt;
+        "block at column {blk_x} into {} bytes, stride {stride}, at {x} {y}: {outcome}",
+        dst.len()
+    )
 }
 
 fn small(rt: &HostRuntime) -> io::Result<()> {

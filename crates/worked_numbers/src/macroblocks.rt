@@ -1,112 +1,74 @@
 // The calls on a macroblock: each of the six, with the vector zero, on one picture.
-use crate::say::{labelled, not_zero, outcome, text};
+use crate::say::{Outcome, macroblock};
+use numbers::Refusal;
 use prediction::{
     predict_inter_mb, predict_inter_mb_whole_pixel, predict_merging, predict_split_mv,
 };
-use rfc6386::{FilterSet, Mv, Prediction, Report, Sizes};
+use rfc6386::{FilterSet, Mv, Predicted, Sizes};
 use std::io;
-use std::num::wrapping_add_usize;
 use versions::{predict_inter_mb_by_version, predict_split_mv_by_version};
 
-pub fn say(rt: &HostRuntime, what: &[u8], p: Prediction) -> io::Result<()> {
-    let samples = p.samples;
-    let y = samples.y;
-    let u = samples.u;
-    let v = samples.v;
-    let of_chroma = wrapping_add_usize(not_zero(&u), not_zero(&v));
-    outcome(
-        rt,
-        what,
-        p.number,
-        wrapping_add_usize(not_zero(&y), of_chroma),
-    )
-}
-
-fn say_report(rt: &HostRuntime, what: &[u8], report: Report) -> io::Result<()> {
-    say(rt, what, report.prediction)
-}
-
-fn whole(
-    rt: &HostRuntime,
-    y: &[u8],
-    u: &[u8],
-    v: &[u8],
+// A picture, the sizes that are said of it, and a position in it.
+#[derive(Clone, Copy)]
+struct Asked<'a> {
+    y: &'a [u8],
+    u: &'a [u8],
+    v: &'a [u8],
     sizes: Sizes,
     col: usize,
     row: usize,
-) -> io::Result<()> {
-    let mv = Mv { row: 0, col: 0 };
-    say_report(
-        rt,
-        b" whole ",
-        predict_inter_mb(y, u, v, sizes, col, row, mv, false, FilterSet::Sixtap),
-    )?;
-    say_report(
-        rt,
-        b", whole pixel ",
-        predict_inter_mb_whole_pixel(y, u, v, sizes, col, row, mv, false),
-    )?;
-    say(
-        rt,
-        b", by version ",
-        predict_inter_mb_by_version(y, u, v, sizes, col, row, mv, 0, false),
-    )
 }
 
-fn split(
-    rt: &HostRuntime,
-    y: &[u8],
-    u: &[u8],
-    v: &[u8],
-    sizes: Sizes,
-    col: usize,
-    row: usize,
-) -> io::Result<()> {
-    let mvs = [Mv { row: 0, col: 0 }; 16];
-    say_report(
-        rt,
-        b", split ",
-        predict_split_mv(y, u, v, sizes, col, row, mvs, false, FilterSet::Sixtap),
-    )?;
-    say_report(
-        rt,
-        b", merging ",
-        predict_merging(y, u, v, sizes, col, row, mvs, false, FilterSet::Sixtap),
-    )?;
-    say(
-        rt,
-        b", by version ",
-        predict_split_mv_by_version(y, u, v, sizes, col, row, mvs, 0, false),
-    )?;
-    text(rt, b"\n")
+const ZERO: Mv = Mv { row: 0, col: 0 };
+
+fn predicted(made: Result<Predicted, Refusal>) -> Outcome {
+    macroblock(made.map(|mb| mb.samples))
 }
 
-fn sizes_line(rt: &HostRuntime, sizes: Sizes, col: usize, row: usize) -> io::Result<()> {
-    labelled(rt, b"", sizes.mb_cols)?;
-    labelled(rt, b" by ", sizes.mb_rows)?;
-    labelled(rt, b" macroblocks, strides ", sizes.y_stride)?;
-    labelled(rt, b" ", sizes.u_stride)?;
-    labelled(rt, b" ", sizes.v_stride)?;
-    labelled(rt, b", at ", col)?;
-    labelled(rt, b" ", row)
+// Whole calls and split calls take other vectors, so that each is called by itself.
+fn whole(rt: &HostRuntime, a: Asked<'_>) -> io::Result<()> {
+    let set = FilterSet::Sixtap;
+    let whole = predict_inter_mb(a.y, a.u, a.v, a.sizes, a.col, a.row, ZERO, false, set);
+    let pixels = predict_inter_mb_whole_pixel(a.y, a.u, a.v, a.sizes, a.col, a.row, ZERO, false);
+    let by_version = predict_inter_mb_by_version(
+        a.y, a.u, a.v, a.sizes, a.col, a.row, ZERO, 0, false,
+    );
+    let whole = predicted(whole);
+    let pixels = predicted(pixels);
+    let by_version = macroblock(by_version);
+    print!(rt; " whole {whole}, whole pixel {pixels}, by version {by_version}")
 }
 
-fn all_six(
-    rt: &HostRuntime,
-    y: &[u8],
-    u: &[u8],
-    v: &[u8],
-    sizes: Sizes,
-    col: usize,
-    row: usize,
-) -> io::Result<()> {
-    sizes_line(rt, sizes, col, row)?;
-    labelled(rt, b", bytes ", y.len())?;
-    labelled(rt, b" ", u.len())?;
-    labelled(rt, b" ", v.len())?;
-    text(rt, b":")?;
-    whole(rt, y, u, v, sizes, col, row)?;
-    split(rt, y, u, v, sizes, col, row)
+fn split(rt: &HostRuntime, a: Asked<'_>) -> io::Result<()> {
+    let set = FilterSet::Sixtap;
+    let mvs = [ZERO; 16];
+    let split = predict_split_mv(a.y, a.u, a.v, a.sizes, a.col, a.row, mvs, false, set);
+    let merging = predict_merging(a.y, a.u, a.v, a.sizes, a.col, a.row, mvs, false, set);
+    let by_version = predict_split_mv_by_version(
+        a.y, a.u, a.v, a.sizes, a.col, a.row, mvs, 0, false,
+    );
+    let split = predicted(split);
+    let merging = predicted(merging);
+    let by_version = macroblock(by_version);
+    println!(rt; ", split {split}, merging {merging}, by version {by_version}")
+}
+
+fn all_six(rt: &HostRuntime, a: Asked<'_>) -> io::Result<()> {
+    let s = a.sizes;
+    print!(rt;
+        "{} by {} macroblocks, strides {} {} {}",
+        s.mb_cols, s.mb_rows, s.y_stride, s.u_stride, s.v_stride
+    )?;
+    print!(rt;
+        ", at {} {}, bytes {} {} {}:",
+        a.col,
+        a.row,
+        a.y.len(),
+        a.u.len(),
+        a.v.len()
+    )?;
+    whole(rt, a)?;
+    split(rt, a)
 }
 
 // One macroblock whose chroma planes are in order.
@@ -119,7 +81,17 @@ fn luma(rt: &HostRuntime, y: &[u8], y_stride: usize, col: usize, row: usize) -> 
         mb_rows: 1,
     };
     let uv = [200u8; 64];
-    all_six(rt, y, &uv, &uv, sizes, col, row)
+    all_six(
+        rt,
+        Asked {
+            y,
+            u: &uv,
+            v: &uv,
+            sizes,
+            col,
+            row,
+        },
+    )
 }
 
 // One whose luma plane is.
@@ -138,7 +110,32 @@ fn chroma(
         mb_rows: 1,
     };
     let y = [200u8; 256];
-    all_six(rt, &y, u, v, sizes, 0, 0)
+    all_six(
+        rt,
+        Asked {
+            y: &y,
+            u,
+            v,
+            sizes,
+            col: 0,
+            row: 0,
+        },
+    )
+}
+
+// Empty planes, at so high a column and row.
+fn empty(rt: &HostRuntime, sizes: Sizes, at: usize) -> io::Result<()> {
+    all_six(
+        rt,
+        Asked {
+            y: b"",
+            u: b"",
+            v: b"",
+            sizes,
+            col: at,
+            row: at,
+        },
+    )
 }
 
 // Empty planes, so that a picture that passes the first two tests gets 3.
@@ -150,7 +147,7 @@ fn size(rt: &HostRuntime, mb_cols: usize, mb_rows: usize) -> io::Result<()> {
         mb_cols,
         mb_rows,
     };
-    all_six(rt, b"", b"", b"", sizes, 0, 0)
+    empty(rt, sizes, 0)
 }
 
 fn bytes(rt: &HostRuntime) -> io::Result<()> {
@@ -207,16 +204,10 @@ fn two_planes(rt: &HostRuntime) -> io::Result<()> {
         mb_cols: 1,
         mb_rows: 1,
     };
-    all_six(rt, b"", b"", b"", sizes, 1, 1)
+    empty(rt, sizes, 1)
 }
 
-fn whole_pixel(
-    rt: &HostRuntime,
-    what: &[u8],
-    row: i16,
-    col: i16,
-    full_pixel: bool,
-) -> io::Result<()> {
+fn whole_pixel(rt: &HostRuntime, row: i16, col: i16, full_pixel: bool) -> io::Result<()> {
     let sizes = Sizes {
         y_stride: 16,
         u_stride: 8,
@@ -226,27 +217,19 @@ fn whole_pixel(
     };
     let y = [200u8; 256];
     let uv = [200u8; 64];
-    say_report(
-        rt,
-        what,
-        predict_inter_mb_whole_pixel(&y, &uv, &uv, sizes, 0, 0, Mv { row, col }, full_pixel),
-    )?;
-    text(rt, b"\n")
+    let mv = Mv { row, col };
+    let made = predicted(predict_inter_mb_whole_pixel(&y, &uv, &uv, sizes, 0, 0, mv, full_pixel));
+    let flag = if full_pixel { ", full-pixel" } else { "" };
+    println!(rt; "whole pixel, vector ({row}, {col}){flag}: {made}")
 }
 
 fn whole_pixels(rt: &HostRuntime) -> io::Result<()> {
-    whole_pixel(rt, b"whole pixel, vector (0, 4): ", 0, 4, false)?;
-    whole_pixel(rt, b"whole pixel, vector (0, 4), full-pixel: ", 0, 4, true)?;
-    whole_pixel(rt, b"whole pixel, vector (4, 0): ", 4, 0, false)?;
-    whole_pixel(rt, b"whole pixel, vector (0, 2): ", 0, 2, false)?;
-    whole_pixel(rt, b"whole pixel, vector (0, 8): ", 0, 8, false)?;
-    whole_pixel(
-        rt,
-        b"whole pixel, vector (-1, -1), full-pixel: ",
-        -1,
-        -1,
-        true,
-    )
+    whole_pixel(rt, 0, 4, false)?;
+    whole_pixel(rt, 0, 4, true)?;
+    whole_pixel(rt, 4, 0, false)?;
+    whole_pixel(rt, 0, 2, false)?;
+    whole_pixel(rt, 0, 8, false)?;
+    whole_pixel(rt, -1, -1, true)
 }
 
 pub fn all(rt: &HostRuntime) -> io::Result<()> {

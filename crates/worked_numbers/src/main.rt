@@ -2,6 +2,7 @@
 // tests. Every line says what was given, and after the colon what came back. A pair such as 3/0 is the call's number and how many of its
 // samples, or of the bytes of its destination, are not 0: every plane here shows the one value 200, so that an accepted call has all of them
 // and a refused one has none. What is expected, stdout, was worked out from the paper.
+// What is given is written out number by number, as the calls take it and the lines say it.
 #![tactic(auto)]
 
 mod by_version;

@@ -1,5 +1,5 @@
 // The calls on one plane: the six fetches and `filter_block_4x4`, with the vector zero.
-use crate::say::{labelled, not_zero, outcome, text};
+use crate::say::square;
 use blocks::{
     fetch_block_halo, fetch_block_whole_pixel, fetch_chroma_mb_halo, fetch_chroma_mb_whole_pixel,
     fetch_luma_mb_halo, fetch_luma_mb_whole_pixel, filter_block_4x4,
@@ -7,62 +7,45 @@ use blocks::{
 use rfc6386::{FilterSet, Mv};
 use std::io;
 
-fn blocks(
-    rt: &HostRuntime,
-    plane: &[u8],
+// A plane, the sizes that are said of it, and a place in it.
+#[derive(Clone, Copy)]
+struct Asked<'a> {
+    plane: &'a [u8],
     stride: usize,
     w: usize,
     h: usize,
     x: usize,
     y: usize,
-) -> io::Result<()> {
-    let mv = Mv { row: 0, col: 0 };
-    let block = fetch_block_whole_pixel(plane, stride, w, h, x, y, mv);
-    let samples = block.samples;
-    outcome(rt, b" block ", block.number, not_zero(&samples))?;
-    let halo = fetch_block_halo(plane, stride, w, h, x, y, mv);
-    let around = halo.samples;
-    outcome(rt, b", its halo ", halo.number, not_zero(&around))?;
-    let filtered = filter_block_4x4(plane, stride, w, h, x, y, mv, FilterSet::Sixtap);
-    let made = filtered.samples;
-    outcome(rt, b", filtered ", filtered.number, not_zero(&made))
 }
 
-fn chroma(
-    rt: &HostRuntime,
-    plane: &[u8],
-    stride: usize,
-    w: usize,
-    h: usize,
-    x: usize,
-    y: usize,
-) -> io::Result<()> {
-    let mv = Mv { row: 0, col: 0 };
-    let block = fetch_chroma_mb_whole_pixel(plane, stride, w, h, x, y, mv);
-    let samples = block.samples;
-    outcome(rt, b", chroma ", block.number, not_zero(&samples))?;
-    let halo = fetch_chroma_mb_halo(plane, stride, w, h, x, y, mv);
-    let around = halo.samples;
-    outcome(rt, b", its halo ", halo.number, not_zero(&around))
+const ZERO: Mv = Mv { row: 0, col: 0 };
+
+// The six answer with arrays of six lengths, so that no list has them all, and each is called by itself.
+fn blocks(rt: &HostRuntime, a: Asked<'_>) -> io::Result<()> {
+    let block = fetch_block_whole_pixel(a.plane, a.stride, a.w, a.h, a.x, a.y, ZERO);
+    let halo = fetch_block_halo(a.plane, a.stride, a.w, a.h, a.x, a.y, ZERO);
+    let set = FilterSet::Sixtap;
+    let filtered = filter_block_4x4(a.plane, a.stride, a.w, a.h, a.x, a.y, ZERO, set);
+    let block = square(block.map(|got| got.samples));
+    let halo = square(halo.map(|got| got.samples));
+    let filtered = square(filtered.map(|made| made.samples));
+    print!(rt; " block {block}, its halo {halo}, filtered {filtered}")
 }
 
-fn luma(
-    rt: &HostRuntime,
-    plane: &[u8],
-    stride: usize,
-    w: usize,
-    h: usize,
-    x: usize,
-    y: usize,
-) -> io::Result<()> {
-    let mv = Mv { row: 0, col: 0 };
-    let block = fetch_luma_mb_whole_pixel(plane, stride, w, h, x, y, mv);
-    let samples = block.samples;
-    outcome(rt, b", luma ", block.number, not_zero(&samples))?;
-    let halo = fetch_luma_mb_halo(plane, stride, w, h, x, y, mv);
-    let around = halo.samples;
-    outcome(rt, b", its halo ", halo.number, not_zero(&around))?;
-    text(rt, b"\n")
+fn chroma(rt: &HostRuntime, a: Asked<'_>) -> io::Result<()> {
+    let block = fetch_chroma_mb_whole_pixel(a.plane, a.stride, a.w, a.h, a.x, a.y, ZERO);
+    let halo = fetch_chroma_mb_halo(a.plane, a.stride, a.w, a.h, a.x, a.y, ZERO);
+    let block = square(block.map(|got| got.samples));
+    let halo = square(halo.map(|got| got.samples));
+    print!(rt; ", chroma {block}, its halo {halo}")
+}
+
+fn luma(rt: &HostRuntime, a: Asked<'_>) -> io::Result<()> {
+    let block = fetch_luma_mb_whole_pixel(a.plane, a.stride, a.w, a.h, a.x, a.y, ZERO);
+    let halo = fetch_luma_mb_halo(a.plane, a.stride, a.w, a.h, a.x, a.y, ZERO);
+    let block = square(block.map(|got| got.samples));
+    let halo = square(halo.map(|got| got.samples));
+    println!(rt; ", luma {block}, its halo {halo}")
 }
 
 fn every(
@@ -74,16 +57,21 @@ fn every(
     x: usize,
     y: usize,
 ) -> io::Result<()> {
-    labelled(rt, b"", w)?;
-    labelled(rt, b" by ", h)?;
-    labelled(rt, b" samples, stride ", stride)?;
-    labelled(rt, b", at ", x)?;
-    labelled(rt, b" ", y)?;
-    labelled(rt, b", bytes ", plane.len())?;
-    text(rt, b":")?;
-    blocks(rt, plane, stride, w, h, x, y)?;
-    chroma(rt, plane, stride, w, h, x, y)?;
-    luma(rt, plane, stride, w, h, x, y)
+    let asked = Asked {
+        plane,
+        stride,
+        w,
+        h,
+        x,
+        y,
+    };
+    print!(rt;
+        "{w} by {h} samples, stride {stride}, at {x} {y}, bytes {}:",
+        plane.len()
+    )?;
+    blocks(rt, asked)?;
+    chroma(rt, asked)?;
+    luma(rt, asked)
 }
 
 fn widths(rt: &HostRuntime) -> io::Result<()> {

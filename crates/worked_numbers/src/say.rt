@@ -1,50 +1,62 @@
 // What a line is put together from.
-use std::io::{self, Write};
-
-pub fn text(rt: &HostRuntime, t: &[u8]) -> io::Result<()> {
-    rt.stdout().write_all(t)
-}
-
-fn count(rt: &HostRuntime, n: usize) -> io::Result<()> {
-    print!(rt; "{n}")
-}
-
-// A number with what stands before it.
-pub fn labelled(rt: &HostRuntime, label: &[u8], n: usize) -> io::Result<()> {
-    text(rt, label)?;
-    count(rt, n)
-}
+use numbers::Refusal;
+use rfc6386::ReconstructedMb;
+use std::{fmt, io};
 
 // How many bytes are not 0.
 pub fn not_zero(s: &[u8]) -> usize {
-    let mut n: usize = 0;
-    let mut i: usize = 0;
-    while i < s.len() {
-        if s[i] != 0 {
-            n += 1;
-        }
-        i += 1;
+    s.iter().filter(|b| **b != 0).count()
+}
+
+// What a call gave, such as 3/0: its number, and how many samples are not 0.
+// A refusal is a number here, since that is what is printed.
+#[derive(Clone, Copy)]
+pub struct Outcome {
+    pub number: u32,
+    pub samples: usize,
+}
+
+impl fmt::Display for Outcome {
+    fn fmt<W: fmt::Write>(&self, f: &mut fmt::Formatter<W>) -> fmt::Result {
+        write!(f, "{}/{}", self.number, self.samples)
     }
-    n
 }
 
-// What a call gave, such as ` whole 3/0`.
-pub fn outcome(rt: &HostRuntime, what: &[u8], number: u32, samples: usize) -> io::Result<()> {
-    labelled(rt, what, number as usize)?;
-    labelled(rt, b"/", samples)
+fn refused(refusal: Refusal) -> Outcome {
+    Outcome {
+        number: u32::from(refusal),
+        samples: 0,
+    }
 }
 
-fn next(rt: &HostRuntime, n: u8) -> io::Result<()> {
-    text(rt, b" ")?;
-    count(rt, n as usize)
+// Of a call that gives a square.
+pub fn square<const N: usize>(made: Result<[u8; N], Refusal>) -> Outcome {
+    match made {
+        Ok(samples) => Outcome {
+            number: 0,
+            samples: not_zero(&samples),
+        },
+        Err(refusal) => refused(refusal),
+    }
+}
+
+// Of one that gives a macroblock.
+pub fn macroblock(made: Result<ReconstructedMb, Refusal>) -> Outcome {
+    match made {
+        Ok(mb) => Outcome {
+            number: 0,
+            samples: not_zero(&mb.y)
+                .wrapping_add(not_zero(&mb.u))
+                .wrapping_add(not_zero(&mb.v)),
+        },
+        Err(refusal) => refused(refusal),
+    }
 }
 
 // Every byte, to the end of the line.
 pub fn every(rt: &HostRuntime, s: &[u8]) -> io::Result<()> {
-    let mut i: usize = 0;
-    while i < s.len() {
-        next(rt, s[i])?;
-        i += 1;
+    for b in s {
+        print!(rt; " {b}")?;
     }
-    text(rt, b"\n")
+    println!(rt; "")
 }

@@ -6,10 +6,9 @@ use Rattle.rfc6386.specs.Raster.{tab}
 use Rattle.rfc6386.proofs.Laws.Raster.{length-raster}
 use Rattle.rfc6386.proofs.Laws.Tests.{and-true}
 use Rattle.y4m_header.specs.Words.{same}
-use Rattle.y4m_frames.specs.Frames.{frame_mark, half, blocks, sizes, plain, whole, file_samples, padded_samples, frame_length, padded, cropped, padded_plane, cropped_plane, padded_frame, file_frame, is_size, stopped, read_frame, write_frame, output_after, Reads, Writes}
+use Rattle.y4m_frames.specs.Frames.{FrameAnswer, frame_mark, half, blocks, sizes, plain, whole, file_samples, padded_samples, frame_length, padded, cropped, padded_plane, cropped_plane, padded_frame, file_frame, is_size, stopped, read_frame, write_frame, output_after, Reads, Writes}
 use Rattle.y4m_frames.specs.Inner.{put, PlaneSound, Sound}
 use Rattle.y4m_frames.proofs.Puts.{put-put}
-use Rattle.y4m_frames.specs.declared.Frame.{Frame}
 use Rattle.y4m_frames.specs.declared.planes.Plane.{Plane}
 use Rattle.y4m_frames.specs.declared.planes.Sizes.{Sizes}
 
@@ -171,18 +170,18 @@ pub new_output : (l out : List ℕ) (n k : ℕ) → output_after (record { numbe
 unfolding output_after
 new_output l out n k = ap (λ (t : Bool). cond t out (l ++ drop (length l) out)) (ne_eqb (6 + k) 0 (λ e. omega arith))
 
-pub reads-stopped : (file out : List ℕ) (w h n : ℕ) (r : Frame) → read_frame file w h (length out) ≡ stopped n → r ≡ stopped n → Reads file w h out r out
+pub reads-stopped : (file out : List ℕ) (w h n : ℕ) (r : FrameAnswer) → read_frame file w h (length out) ≡ stopped n → r ≡ stopped n → Reads file w h out r out
 reads-stopped file out w h n r e f =
     record {
       report_is = f ∙ sym e;
-      bytes_are = sym (ap (λ (x : Frame). output_after x (padded_frame file (sizes w h)) out) e ∙ kept_output (padded_frame file (sizes w h)) out n);
+      bytes_are = sym (ap (λ (x : FrameAnswer). output_after x (padded_frame file (sizes w h)) out) e ∙ kept_output (padded_frame file (sizes w h)) out n);
     }
 
-pub writes-stopped : (frame out : List ℕ) (w h n : ℕ) (r : Frame) → write_frame frame w h (length out) ≡ stopped n → r ≡ stopped n → Writes frame w h out r out
+pub writes-stopped : (frame out : List ℕ) (w h n : ℕ) (r : FrameAnswer) → write_frame frame w h (length out) ≡ stopped n → r ≡ stopped n → Writes frame w h out r out
 writes-stopped frame out w h n r e f =
     record {
       report_is = f ∙ sym e;
-      bytes_are = sym (ap (λ (x : Frame). output_after x (file_frame frame (sizes w h)) out) e ∙ kept_output (file_frame frame (sizes w h)) out n);
+      bytes_are = sym (ap (λ (x : FrameAnswer). output_after x (file_frame frame (sizes w h)) out) e ∙ kept_output (file_frame frame (sizes w h)) out n);
     }
 
 pub reads_done : (file out out' : List ℕ) (w h n : ℕ) (s : Sizes) → (is_size w && is_size h) ≡ true → (length file ≡ 0 → ⊥) → same (take 6 file) frame_mark ≡ true
@@ -196,7 +195,7 @@ reads_done file out out' w h n s a b c e f d g p =
       report_is = ap (λ (x : ℕ). record { number = 0; bytes = x }) k ∙ sym t;
       bytes_are =
           p ∙ ap (λ (x : Sizes). put out 0 (padded_frame file x)) e ∙ front out (padded_frame file (sizes w h))
-          ∙ sym (ap (λ (x : Frame). output_after x (padded_frame file (sizes w h)) out) t ∙ new_output (padded_frame file (sizes w h)) out 0 (file_samples (sizes w h)));
+          ∙ sym (ap (λ (x : FrameAnswer). output_after x (padded_frame file (sizes w h)) out) t ∙ new_output (padded_frame file (sizes w h)) out 0 (file_samples (sizes w h)));
     }
 
 pub writes_done : (frame out out' : List ℕ) (w h n : ℕ) (s : Sizes) → (is_size w && is_size h) ≡ true → s ≡ sizes w h → padded_samples s ≤ length frame
@@ -209,5 +208,5 @@ writes_done frame out out' w h n s a e g f d p =
       report_is = ap (λ (x : ℕ). record { number = 0; bytes = x }) k ∙ sym t;
       bytes_are =
           p ∙ ap (λ (x : Sizes). put out 0 (file_frame frame x)) e ∙ front out (file_frame frame (sizes w h))
-          ∙ sym (ap (λ (x : Frame). output_after x (file_frame frame (sizes w h)) out) t ∙ new_output (file_frame frame (sizes w h)) out 0 (file_samples (sizes w h)));
+          ∙ sym (ap (λ (x : FrameAnswer). output_after x (file_frame frame (sizes w h)) out) t ∙ new_output (file_frame frame (sizes w h)) out 0 (file_samples (sizes w h)));
     }

@@ -5,3 +5,4 @@ pub mod Calls
 pub mod RoundTrip
 pub mod Theorems
 pub mod Worked
+pub mod Told

@@ -1,10 +1,10 @@
 -- Laws of lists laid over others, and of lists by their elements. Assumes nothing.
-use Rattle.std.specs.Prelude.{◌≡◌, refl, Bool, true, false, List, [], ◌∷◌, ◌++◌, ℕ, min, ◌+◌, ◌-◌, ◌*◌, ◌/◌, ◌%◌, ◌<◌, ◌≤◌, pos, ltb, length, get_or, take, drop, set}
+use Rattle.std.specs.Prelude.{◌≡◌, refl, Bool, true, false, List, [], ◌∷◌, ◌++◌, ℕ, min, ◌+◌, ◌-◌, ◌*◌, ◌/◌, ◌%◌, ◌<◌, ◌≤◌, pos, ltb, length, get_or, take, drop, set, replicate}
 use Rattle.std.proofs.Common.{sym, ap, ◌∙◌, append_assoc, arith, add-one, length-append, length-drop, take-append-drop, length-take-le, take_at, drop-drop, get_or-append-add, ltb-true, ltb-false}
 use Rattle.std.proofs.Math.Arith.{digits_div, digits_mod}
-use Rattle.std.proofs.Math.ListN.{get_or-append}
-use Rattle.std.proofs.Math.Seq.{drop-append-add}
-use Rattle.std.proofs.lemmas.List.{set_split}
+use Rattle.std.proofs.Math.ListN.{get_or-append, length-take}
+use Rattle.std.proofs.Math.Seq.{drop-append-add, paste, take_all, get_or-take, get_or-drop}
+use Rattle.std.proofs.lemmas.List.{length-replicate, get_or-replicate, set_split}
 use Rattle.rfc6386.specs.Number.{clamped}
 use Rattle.rfc6386.specs.Raster.{tab, raster}
 use Rattle.rfc6386.proofs.Laws.Raster.{length-tab, get_or-tab, is-tab, tab_ext, length-raster, next_row, row_fits}
@@ -49,6 +49,10 @@ pub set-put : (d : List ℕ) (i x : ℕ) → i < length d → set d i x ≡ put 
 unfolding put
 set-put d i x h = set_split d i x h ∙ ap (λ (n : ℕ). take i d ++ x ∷ drop n d) (sym (add-one i))
 
+pub paste-put : (d : List ℕ) (at : ℕ) (l : List ℕ) (n : ℕ) → n ≡ length l → paste d at l n ≡ put d at l
+paste-put d at l n e =
+    ap (λ (x : List ℕ). take at d ++ x ++ drop (at + n) d) (take_all n l (omega arith)) ∙ sym (put_is d at l (at + n) (omega arith))
+
 -- ---- lists by their elements
 pub tab_append : (n m : ℕ) (f : ℕ → ℕ) → tab (n + m) f ≡ tab n f ++ tab m (λ i. f (n + i))
 tab_append n m f = sym (is-tab 0 (n + m) f both (length-append (tab n f) rest ∙ omega (arith, length-tab n f, length-tab m g)) (λ i h. at i h (ltb i n) refl))
@@ -74,41 +78,21 @@ pub tab_next : (n : ℕ) (f : ℕ → ℕ) → tab (n + 1) f ≡ tab n f ++ f n 
 unfolding tab
 tab_next n f = let e : n + 0 ≡ n = omega arith in tab_append n 1 f ∙ ap (λ (k : ℕ). tab n f ++ f k ∷ []) e
 
+-- a part of a list, and an element repeated
+pub tab-part : (s : List ℕ) (from n : ℕ) → from + n ≤ length s → take n (drop from s) ≡ tab n (λ i. get_or s (from + i) 0)
+tab-part s from n h =
+    is-tab 0 n (λ i. get_or s (from + i) 0) (take n (drop from s)) (omega (arith, length-take n (drop from s), length-drop from s))
+    (λ i k. get_or-take n (drop from s) i 0 k ∙ get_or-drop from s i 0)
+
+pub tab-same : (n b : ℕ) → replicate n b ≡ tab n (λ i. b)
+tab-same n b = is-tab 0 n (λ i. b) (replicate n b) (length-replicate n b) (λ i k. get_or-replicate n i b 0 k)
+
 pub raster_next : (r w : ℕ) (f : ℕ → ℕ → ℕ) → raster (r + 1) w f ≡ raster r w f ++ tab w (f r)
 unfolding raster
 raster_next r w f =
     ap (λ (n : ℕ). tab n (λ i. f (i / w) (i % w))) (next_row r w)
     ∙ tab_append (r * w) w (λ i. f (i / w) (i % w))
     ∙ ap (λ (l : List ℕ). tab (r * w) (λ i. f (i / w) (i % w)) ++ l) (tab_ext w (λ i. f ((r * w + i) / w) ((r * w + i) % w)) (f r) (λ i h. rw (digits_div r h, digits_mod r h)))
-
--- ---- a loop over elements: the first i are laid
-pub record Laid (d out : List ℕ) (at i : ℕ) (f : ℕ → ℕ) : Type 0 where
-  pub long : length out ≡ length d
-  pub is : out ≡ put d at (tab i f)
-
-pub laid_none : (d : List ℕ) (at : ℕ) (f : ℕ → ℕ) → Laid d d at 0 f
-unfolding tab
-laid_none d at f = record { long = refl; is = sym (put_none d at) }
-
-pub laid_more : (d out : List ℕ) (at i : ℕ) (f : ℕ → ℕ) (x : ℕ) → at + i < length d → x ≡ f i → Laid d out at i f → Laid d (set out (at + i) x) at (i + 1) f
-laid_more d out at i f x h e p =
-    let long = p.long in
-    let n = length-tab i f in
-    let k : at + i ≡ at + length (tab i f) = omega arith in
-    let new : set out (at + i) x ≡ put d at (tab (i + 1) f) =
-    set-put out (at + i) x (omega arith)
-    ∙ ap (λ (y : ℕ). put out (at + i) (y ∷ [])) e
-    ∙ ap (λ (l : List ℕ). put l (at + i) (f i ∷ [])) p.is
-    ∙ ap (λ (j : ℕ). put (put d at (tab i f)) j (f i ∷ [])) k
-    ∙ put-put d at (tab i f) (f i ∷ []) (omega arith)
-    ∙ ap (put d at) (sym (tab_next i f)) in
-    record {
-      long = ap length new ∙ length-put d at (tab (i + 1) f) (omega (arith, length-tab (i + 1) f));
-      is = new;
-    }
-
-pub laid_all : (d out : List ℕ) (at i n : ℕ) (f : ℕ → ℕ) → i ≡ n → Laid d out at i f → out ≡ put d at (tab n f)
-laid_all d out at i n f e p = p.is ∙ ap (λ (k : ℕ). put d at (tab k f)) e
 
 -- ---- a loop over rows: the first r are laid
 pub record Stacked (d out : List ℕ) (at w r : ℕ) (f : ℕ → ℕ → ℕ) : Type 0 where
@@ -156,3 +140,32 @@ row_padded s from w pw h k =
   where
     f : ℕ → ℕ
     f c = get_or s (from + clamped (pos c) w) 0
+
+-- ---- a loop over elements: the first i are laid
+pub record Laid (d out : List ℕ) (at i : ℕ) (f : ℕ → ℕ) : Type 0 where
+  pub long : length out ≡ length d
+  pub is : out ≡ put d at (tab i f)
+
+pub laid_none : (d : List ℕ) (at : ℕ) (f : ℕ → ℕ) → Laid d d at 0 f
+unfolding tab
+laid_none d at f = record { long = refl; is = sym (put_none d at) }
+
+pub laid_more : (d out : List ℕ) (at i : ℕ) (f : ℕ → ℕ) (x : ℕ) → at + i < length d → x ≡ f i → Laid d out at i f → Laid d (set out (at + i) x) at (i + 1) f
+laid_more d out at i f x h e p =
+    let long = p.long in
+    let n = length-tab i f in
+    let k : at + i ≡ at + length (tab i f) = omega arith in
+    let new : set out (at + i) x ≡ put d at (tab (i + 1) f) =
+    set-put out (at + i) x (omega arith)
+    ∙ ap (λ (y : ℕ). put out (at + i) (y ∷ [])) e
+    ∙ ap (λ (l : List ℕ). put l (at + i) (f i ∷ [])) p.is
+    ∙ ap (λ (j : ℕ). put (put d at (tab i f)) j (f i ∷ [])) k
+    ∙ put-put d at (tab i f) (f i ∷ []) (omega arith)
+    ∙ ap (put d at) (sym (tab_next i f)) in
+    record {
+      long = ap length new ∙ length-put d at (tab (i + 1) f) (omega (arith, length-tab (i + 1) f));
+      is = new;
+    }
+
+pub laid_all : (d out : List ℕ) (at i n : ℕ) (f : ℕ → ℕ) → i ≡ n → Laid d out at i f → out ≡ put d at (tab n f)
+laid_all d out at i n f e p = p.is ∙ ap (λ (k : ℕ). put d at (tab k f)) e

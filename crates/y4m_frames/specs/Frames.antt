@@ -1,9 +1,10 @@
 -- Frames: in a file a mark and three planes without gaps, here three planes padded to whole macroblocks.
-use Rattle.std.specs.Prelude.{◌≡◌, Bool, cond, not, ◌&&◌, List, [], ◌∷◌, ◌++◌, ℕ, ◌+◌, ◌*◌, ◌/◌, pos, length, get_or, take, drop, leb, ltb, eqb}
+use Rattle.std.specs.Prelude.{◌≡◌, Bool, cond, not, ◌&&◌, List, [], ◌∷◌, ◌++◌, ℕ, ◌+◌, ◌*◌, ◌/◌, pos, length, get_or, take, drop, leb, ltb, eqb, Result}
+use Rattle.numbers.specs.declared.Refusal.{Refusal}
+use Rattle.numbers.specs.Outcome.{outcome}
 use Rattle.rfc6386.specs.Number.{clamped}
 use Rattle.rfc6386.specs.Raster.{raster}
 use Rattle.y4m_header.specs.Words.{same}
-use Rattle.y4m_frames.specs.declared.Frame.{Frame}
 use Rattle.y4m_frames.specs.declared.planes.Plane.{Plane}
 use Rattle.y4m_frames.specs.declared.planes.Sizes.{Sizes}
 
@@ -81,12 +82,16 @@ file_frame frame s =
 abbrev pub is_size : ℕ → Bool
 is_size n = leb 1 n && leb n 16384
 
--- no bytes taken or written
-abbrev pub stopped : ℕ → Frame
+-- a call's number, and the bytes taken or written: none where it refuses and at the file's end
+pub record FrameAnswer : Type 0 where
+  pub number : ℕ
+  pub bytes : ℕ
+
+abbrev pub stopped : ℕ → FrameAnswer
 stopped n = record { number = n; bytes = 0 }
 
 -- what reading a frame reports, with so much room in the output. Where the file has no bytes more, it has ended
-unfoldable pub read_frame : List ℕ → ℕ → ℕ → ℕ → Frame
+unfoldable pub read_frame : List ℕ → ℕ → ℕ → ℕ → FrameAnswer
 read_frame file w h room =
     cond (not (is_size w && is_size h)) (stopped 1)
     (cond (eqb (length file) 0) (stopped 0)
@@ -95,7 +100,7 @@ read_frame file w h room =
     (cond (ltb room (padded_samples (sizes w h))) (stopped 7)
     (record { number = 0; bytes = frame_length (sizes w h) })))))
 
-unfoldable pub write_frame : List ℕ → ℕ → ℕ → ℕ → Frame
+unfoldable pub write_frame : List ℕ → ℕ → ℕ → ℕ → FrameAnswer
 write_frame frame w h room =
     cond (not (is_size w && is_size h)) (stopped 1)
     (cond (ltb (length frame) (padded_samples (sizes w h))) (stopped 14)
@@ -103,14 +108,18 @@ write_frame frame w h room =
     (record { number = 0; bytes = frame_length (sizes w h) })))
 
 -- an output changes where bytes are taken or written; what lies after them is as it was
-unfoldable pub output_after : Frame → List ℕ → List ℕ → List ℕ
+unfoldable pub output_after : FrameAnswer → List ℕ → List ℕ → List ℕ
 output_after r l out = cond (eqb r.bytes 0) out (l ++ drop (length l) out)
 
+-- a function's result, told so: the bytes with 0, a refusal by its number
+abbrev pub frame_told : Result ℕ Refusal → FrameAnswer
+frame_told r = outcome (λ n. record { number = 0; bytes = n }) stopped r
+
 -- the outcome of a call: what it reports, and the final bytes of its output
-pub record Reads (file : List ℕ) (w h : ℕ) (out : List ℕ) (r : Frame) (out' : List ℕ) : Type 0 where
+pub record Reads (file : List ℕ) (w h : ℕ) (out : List ℕ) (r : FrameAnswer) (out' : List ℕ) : Type 0 where
   pub report_is : r ≡ read_frame file w h (length out)
   pub bytes_are : out' ≡ output_after (read_frame file w h (length out)) (padded_frame file (sizes w h)) out
 
-pub record Writes (frame : List ℕ) (w h : ℕ) (out : List ℕ) (r : Frame) (out' : List ℕ) : Type 0 where
+pub record Writes (frame : List ℕ) (w h : ℕ) (out : List ℕ) (r : FrameAnswer) (out' : List ℕ) : Type 0 where
   pub report_is : r ≡ write_frame frame w h (length out)
   pub bytes_are : out' ≡ output_after (write_frame frame w h (length out)) (file_frame frame (sizes w h)) out

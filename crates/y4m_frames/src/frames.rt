@@ -1,28 +1,17 @@
 // Frames: read into planes padded to whole macroblocks, and written back.
 ghost use Rattle.std.specs.Prelude.{◌≡◌, length, take};
 ghost use Rattle.y4m_header.specs.Words.{same};
-ghost use Rattle.y4m_frames.specs.Frames.{frame_mark, stopped, padded_frame, file_frame, Reads, Writes};
+ghost use Rattle.y4m_frames.specs.Frames.{frame_mark, padded_frame, file_frame, frame_told, Reads, Writes};
 ghost use Rattle.y4m_frames.specs.Inner.{put, FramePadding, FrameCropping};
 
-use crate::Frame;
 use crate::planes::{Sizes, are_sizes, frame_length, padded_samples, sizes_of};
 use crate::rows::{copy, crop_plane, pad_plane};
-use numbers::{CUT, MARK, ROOM, SIZE};
-use y4m_header::words::same;
+use numbers::Refusal;
 
 fn marked(file: &[u8]) -> bool
     ensures { result ≡ same (take 6 file.now) frame_mark }
 {
-    if file.len() < 6 {
-        return false;
-    }
-    same(&file[..6], b"FRAME\n")
-}
-
-fn stop(number: u32) -> Frame
-    ensures { result ≡ stopped number }
-{
-    Frame { number, bytes: 0 }
+    file.starts_with(b"FRAME\n")
 }
 
 fn pad_frame(file: &[u8], s: Sizes, out: &mut [u8])
@@ -35,36 +24,9 @@ fn pad_frame(file: &[u8], s: Sizes, out: &mut [u8])
     let v = u + chroma.height * chroma.width;
     let out_u = luma.high * luma.wide;
     let out_v = out_u + chroma.high * chroma.wide;
-    pad_plane(
-        file,
-        6,
-        luma.width,
-        luma.height,
-        out,
-        0,
-        luma.wide,
-        luma.high,
-    );
-    pad_plane(
-        file,
-        u,
-        chroma.width,
-        chroma.height,
-        out,
-        out_u,
-        chroma.wide,
-        chroma.high,
-    );
-    pad_plane(
-        file,
-        v,
-        chroma.width,
-        chroma.height,
-        out,
-        out_v,
-        chroma.wide,
-        chroma.high,
-    );
+    pad_plane(file, 6, luma, out, 0);
+    pad_plane(file, u, chroma, out, out_u);
+    pad_plane(file, v, chroma, out, out_v);
 }
 
 fn crop_frame(frame: &[u8], s: Sizes, out: &mut [u8])
@@ -78,71 +40,56 @@ fn crop_frame(frame: &[u8], s: Sizes, out: &mut [u8])
     let out_u = 6 + luma.height * luma.width;
     let out_v = out_u + chroma.height * chroma.width;
     copy(b"FRAME\n", 0, out, 0, 6);
-    crop_plane(frame, 0, luma.wide, out, 6, luma.width, luma.height);
-    crop_plane(
-        frame,
-        u,
-        chroma.wide,
-        out,
-        out_u,
-        chroma.width,
-        chroma.height,
-    );
-    crop_plane(
-        frame,
-        v,
-        chroma.wide,
-        out,
-        out_v,
-        chroma.width,
-        chroma.height,
-    );
+    crop_plane(frame, 0, luma, out, 6);
+    crop_plane(frame, u, chroma, out, out_u);
+    crop_plane(frame, v, chroma, out, out_v);
 }
 
-pub fn read_frame(file: &[u8], width: usize, height: usize, out: &mut [u8]) -> Frame
-    ensures { Reads file.now width height out.old result out.new }
+// The bytes that are taken: 0 at the file's end.
+pub fn read_frame(file: &[u8], width: usize, height: usize, out: &mut [u8]) -> Result<u64, Refusal>
+    ensures { Reads file.now width height out.old (frame_told result) out.new }
 {
     if !are_sizes(width, height) {
-        return stop(SIZE);
+        return Err(Refusal::Size);
     }
-    if file.len() == 0 {
-        return stop(0);
+    if file.is_empty() {
+        return Ok(0);
     }
     if !marked(file) {
-        return stop(MARK);
+        return Err(Refusal::Mark);
     }
     let s = sizes_of(width, height);
     let n = frame_length(s);
     if file.len() < n {
-        return stop(CUT);
+        return Err(Refusal::Cut);
     }
     if out.len() < padded_samples(s) {
-        return stop(ROOM);
+        return Err(Refusal::Room);
     }
     pad_frame(file, s, out);
-    Frame {
-        number: 0,
-        bytes: n as u64,
-    }
+    Ok(n as u64)
 }
 
-pub fn write_frame(frame: &[u8], width: usize, height: usize, out: &mut [u8]) -> Frame
-    ensures { Writes frame.now width height out.old result out.new }
+// The bytes that are written.
+pub fn write_frame(
+    frame: &[u8],
+    width: usize,
+    height: usize,
+    out: &mut [u8],
+) -> Result<u64, Refusal>
+    ensures { Writes frame.now width height out.old (frame_told result) out.new }
 {
     if !are_sizes(width, height) {
-        return stop(SIZE);
+        return Err(Refusal::Size);
     }
     let s = sizes_of(width, height);
     if frame.len() < padded_samples(s) {
-        return stop(CUT);
+        return Err(Refusal::Cut);
     }
     let n = frame_length(s);
     if out.len() < n {
-        return stop(ROOM);
+        return Err(Refusal::Room);
     }
     crop_frame(frame, s, out);
-    Frame {
-        number: 0,
-        bytes: n as u64,
-    }
+    Ok(n as u64)
 }

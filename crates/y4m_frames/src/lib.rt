@@ -4,10 +4,3 @@
 pub mod frames;
 mod planes;
 mod rows;
-
-// What reading or writing a frame reports: the bytes taken or written, 0 where the call refuses and at the file's end.
-#[derive(Clone, Copy)]
-pub struct Frame {
-    pub number: u32,
-    pub bytes: u64,
-}

@@ -12,6 +12,7 @@ pub struct Plane {
     pub high: usize,
 }
 
+// Of a frame's planes. That they are sound is no ghost field: the definition `sizes` makes this record of every width and height.
 #[derive(Clone, Copy)]
 pub struct Sizes {
     pub luma: Plane,
@@ -21,19 +22,7 @@ pub struct Sizes {
 pub fn are_sizes(w: usize, h: usize) -> bool
     ensures { result ≡ (is_size w && is_size h) }
 {
-    if w < 1 {
-        return false;
-    }
-    if w > 16384 {
-        return false;
-    }
-    if h < 1 {
-        return false;
-    }
-    if h > 16384 {
-        return false;
-    }
-    true
+    (1..=16384).contains(&w) && (1..=16384).contains(&h)
 }
 
 pub fn sizes_of(w: usize, h: usize) -> Sizes
@@ -57,6 +46,7 @@ pub fn sizes_of(w: usize, h: usize) -> Sizes
     Sizes { luma, chroma }
 }
 
+// This and `padded_samples` add up other fields, as the definitions of their names do.
 pub fn frame_length(s: Sizes) -> usize
     requires { Sound s }
     ensures { result ≡ frame_length s }

@@ -1,18 +1,20 @@
 // Rows of samples, copied and padded.
-ghost use Rattle.std.specs.Prelude.{◌≡◌, min, ◌+◌, ◌-◌, ◌≤◌, pos, length, get_or};
+// A plane is a place in a list, since C lends the three as one; `put` speaks of the whole list.
+ghost use Rattle.std.specs.Prelude.{◌≡◌, ◌+◌, ◌-◌, ◌≤◌, pos, length, get_or};
 ghost use Rattle.rfc6386.specs.Number.{clamped};
 ghost use Rattle.rfc6386.specs.Raster.{tab};
-ghost use Rattle.y4m_frames.specs.Frames.{padded, cropped};
+ghost use Rattle.y4m_frames.specs.Frames.{padded_plane, cropped_plane};
 ghost use Rattle.y4m_frames.specs.Inner.{put, Padding, Cropping};
 
+use crate::planes::Plane;
+
+// A loop, since `copy_from_slice` makes the library call `memmove`, which include/threshowl.h does not ask of a host.
 pub fn copy(s: &[u8], from: usize, out: &mut [u8], at: usize, n: usize)
     requires { (from + n ≤ length s.now) × (at + n ≤ length out.old) }
     ensures { out.new ≡ put out.old at (tab n (λ i. get_or s.now (from + i) 0)) }
 {
-    let mut i: usize = 0;
-    while i < n {
+    for i in 0..n {
         out[at + i] = s[from + i];
-        i += 1;
     }
 }
 
@@ -20,11 +22,7 @@ fn fill(out: &mut [u8], at: usize, n: usize, b: u8)
     requires { at + n ≤ length out.old }
     ensures { out.new ≡ put out.old at (tab n (λ i. b)) }
 {
-    let mut i: usize = 0;
-    while i < n {
-        out[at + i] = b;
-        i += 1;
-    }
+    out[at..at + n].fill(b);
 }
 
 // A row of w samples, padded to pw.
@@ -37,42 +35,30 @@ fn pad_row(s: &[u8], from: usize, w: usize, out: &mut [u8], at: usize, pw: usize
     fill(out, at + w, pw - w, last);
 }
 
-fn least(a: usize, b: usize) -> usize
-    ensures { result ≡ min a b }
+// A plane that begins at `from`, padded.
+pub fn pad_plane(s: &[u8], from: usize, p: Plane, out: &mut [u8], at: usize)
+    requires { Padding (length s.now) from p.width p.height (length out.old) at p.wide p.high }
+    ensures { out.new ≡ put out.old at (padded_plane s.now from p) }
 {
-    if a < b { a } else { b }
-}
-
-// A plane of w by h samples, padded to pw by ph.
-pub fn pad_plane(
-    s: &[u8],
-    from: usize,
-    w: usize,
-    h: usize,
-    out: &mut [u8],
-    at: usize,
-    pw: usize,
-    ph: usize,
-)
-    requires { Padding (length s.now) from w h (length out.old) at pw ph }
-    ensures { out.new ≡ put out.old at (padded s.now from w h pw ph) }
-{
-    let mut r: usize = 0;
-    while r < ph {
-        let row = least(r, h - 1);
-        pad_row(s, from + row * w, w, out, at + r * pw, pw);
-        r += 1;
+    for r in 0..p.high {
+        let row = r.min(p.height - 1);
+        pad_row(
+            s,
+            from + row * p.width,
+            p.width,
+            out,
+            at + r * p.wide,
+            p.wide,
+        );
     }
 }
 
-// A plane of w by h samples, from rows of pw.
-pub fn crop_plane(s: &[u8], from: usize, pw: usize, out: &mut [u8], at: usize, w: usize, h: usize)
-    requires { Cropping (length s.now) from pw (length out.old) at w h }
-    ensures { out.new ≡ put out.old at (cropped s.now from w h pw) }
+// A plane without its padding, from a padded one that begins at `from`.
+pub fn crop_plane(s: &[u8], from: usize, p: Plane, out: &mut [u8], at: usize)
+    requires { Cropping (length s.now) from p.wide (length out.old) at p.width p.height }
+    ensures { out.new ≡ put out.old at (cropped_plane s.now from p) }
 {
-    let mut r: usize = 0;
-    while r < h {
-        copy(s, from + r * pw, out, at + r * w, w);
-        r += 1;
+    for r in 0..p.height {
+        copy(s, from + r * p.wide, out, at + r * p.width, p.width);
     }
 }

@@ -5,15 +5,31 @@ use mathlib.Core.List.{List, [], ◌∷◌}
 use Prim.Native.Nat.{ℕ, zero, suc, min, ◌+◌, ◌-◌, ◌*◌, ◌<◌, ◌≤◌}
 use native.Mathlib.Omega.{arith}
 use native.Mathlib.Numerals.{add-one}
-use lib.ListN.{length, get_or, take, drop, length-take, length-drop}
-use lib.Seq.{drop-cons, drop-length, drop-drop, take_all, take-take}
+use lib.ListN.{length, get_or, take, drop, length-take}
+use lib.Seq.{drop-cons, drop-length, take_all, take-take}
 use lib.Dec.{leb, ltb, eqb}
-use borrow.Author.Tests.{eq-eqb, ne_eqb, lt-ltb, le-ltb, lt-leb, le-leb, ltb-true, ltb-false, leb-true}
+use lib.Pointwise.{pointwise}
+use borrow.Author.Tests.{eq-eqb, ne_eqb, lt-leb, le-leb, ltb-true, ltb-false, leb-true}
+use Rattle.std.proofs.Common.{Option, Some, None, nat_eq, unwrap_or}
+use Rattle.std.specs.Option.{ForSome, is_none}
+use Rattle.std.proofs.Common.{eqb-true}
+use Rattle.std.proofs.lemmas.Bool.{eqb-false}
+use Rattle.std.specs.Iterator.{Yields}
+use Rattle.std.proofs.lemmas.Iterator.{YieldsList}
+use Rattle.std.proofs.lemmas.Iterator.Splits.{YieldsList-from_slice_split}
+use Rattle.std.specs.Slice.Iter.{split_steps, split_rest, split_done, split_callee}
+use Rattle.std.specs.declared.slice.Split.{Split}
+use Rattle.std.specs.Fn.{CalledAt}
+use denote.Param.Members.{Mut}
+use denote.Ref.{Bor}
+use Rattle.std.specs.List.{position_or_len, slice_split, onto_first}
+use Rattle.std.proofs.lemmas.List.Recursion.{is_position_or_len}
 use Rattle.y4m_header.specs.Words.{before, onto, words, same, digit, digits, worth}
-use Rattle.y4m_header.specs.HeaderLine.{size, mark, jpeg420, nothing, broken, tell_width, tell_height, tell_colour, tell, tell_all, told, line, refused, heading, header_of}
-use Rattle.y4m_header.specs.Inner.{Before}
-use Rattle.y4m_header.specs.declared.header_line.Told.{Told}
-use Rattle.y4m_header.specs.declared.Header.{Header}
+use Rattle.y4m_header.specs.HeaderLine.{Told, HeaderAnswer, size, mark, jpeg420, nothing, broken, tell_width, tell_height, tell_colour, tell, tell_all, told, line, ended, refused, heading, header_of}
+use Rattle.y4m_header.specs.Inner.{some_size, so_far, Sound, Kept}
+use Rattle.y4m_header.specs.declared.header_line.Parameters.{Parameters}
+use Rattle.y4m_header.proofs.Definitions.{both}
+use Rattle.y4m_header.proofs.Resizing.{all-good}
 
 -- ---- lists from a place on
 pub drop_next : (l : List ℕ) (i : ℕ) → i < length l → drop i l ≡ get_or l i 0 ∷ drop (i + 1) l
@@ -23,14 +39,6 @@ pub drop_end : (l : List ℕ) (i : ℕ) → i ≡ length l → drop i l ≡ []
 drop_end l i e = ap (λ (n : ℕ). drop n l) e ∙ drop-length l
 
 -- ---- before a byte
-before_other : (b x : ℕ) (l : List ℕ) → (x ≡ b → ⊥) → before b (x ∷ l) ≡ x ∷ before b l
-unfolding before
-before_other b x l h = ap (λ (t : Bool). cond t [] (x ∷ before b l)) (ne_eqb x b h)
-
-before_this : (b x : ℕ) (l : List ℕ) → x ≡ b → before b (x ∷ l) ≡ []
-unfolding before
-before_this b x l h = ap (λ (t : Bool). cond t [] (x ∷ before b l)) (eq-eqb x b h)
-
 pub before-take : (b : ℕ) (l : List ℕ) → before b l ≡ take (length (before b l)) l
 unfolding before
 before-take b [] = refl
@@ -40,64 +48,22 @@ before-take b (x ∷ l) = go (eqb x b) (before-take b l)
     go true e = refl
     go false e = ap (λ (m : List ℕ). x ∷ m) e
 
--- none of the first i is b
-pub record Passed (b : ℕ) (l : List ℕ) (i : ℕ) : Type 0 where
-  pub inside : i ≤ length l
-  pub rest : length (before b l) ≡ i + length (before b (drop i l))
-
-pub passed_more : (b : ℕ) (l : List ℕ) (i : ℕ) → i < length l → (get_or l i 0 ≡ b → ⊥) → Passed b l i → Passed b l (i + 1)
-passed_more b l i h ne p =
-    let e = ap (λ (m : List ℕ). length (before b m)) (drop_next l i h) ∙ ap length (before_other b (get_or l i 0) (drop (i + 1) l) ne) in
-    record { inside = omega arith; rest = omega (arith, p.rest, e) }
-
-pub passed_found : (b : ℕ) (l : List ℕ) (i : ℕ) → i < length l → get_or l i 0 ≡ b → Passed b l i → Before b l i
-passed_found b l i h is p =
-    let e = ap (λ (m : List ℕ). length (before b m)) (drop_next l i h) ∙ ap length (before_this b (get_or l i 0) (drop (i + 1) l) is) in
-    record { is = omega (arith, p.rest, e); inside = p.inside }
-
-pub passed_all : (b : ℕ) (l : List ℕ) (i : ℕ) → length l ≤ i → Passed b l i → Before b l i
+-- how many bytes stand there
+pub length-before : (b : ℕ) (l : List ℕ) → length (before b l) ≡ position_or_len (λ x. eqb x b) l
 unfolding before
-passed_all b l i h p =
-    let inside = p.inside in
-    let e = ap (λ (m : List ℕ). length (before b m)) (drop_end l i (omega arith)) in
-    record { is = omega (arith, p.rest, e); inside = p.inside }
+length-before b l = is_position_or_len (λ (m : List ℕ). length (before b m)) (λ x. eqb x b) refl (λ x m. go x m (eqb x b)) l
+  where
+    go : (x : ℕ) (m : List ℕ) (t : Bool) → length (cond t [] (x ∷ before b m)) ≡ cond t 0 (1 + length (before b m))
+    go x m true = refl
+    go x m false = omega arith
 
--- ---- equal words
-same_other : (x y : ℕ) (l m : List ℕ) → (x ≡ y → ⊥) → same (x ∷ l) (y ∷ m) ≡ false
+-- ---- equal words: what `==` says of them
+pub equal_is : (a b : List ℕ) → pointwise nat_eq a b ≡ same a b
 unfolding same
-same_other x y l m h = ap (λ (t : Bool). t && same l m) (ne_eqb x y h)
-
-same_this : (x y : ℕ) (l m : List ℕ) → x ≡ y → same (x ∷ l) (y ∷ m) ≡ same l m
-unfolding same
-same_this x y l m h = ap (λ (t : Bool). t && same l m) (eq-eqb x y h)
-
--- the first i are equal
-pub record Alike (a b : List ℕ) (i : ℕ) : Type 0 where
-  pub long : length a ≡ length b
-  pub inside : i ≤ length a
-  pub rest : same a b ≡ same (drop i a) (drop i b)
-
-alike_next : (a b : List ℕ) (i : ℕ) → i < length a → Alike a b i → same a b ≡ same (get_or a i 0 ∷ drop (i + 1) a) (get_or b i 0 ∷ drop (i + 1) b)
-alike_next a b i h p =
-    let long = p.long in
-    p.rest
-    ∙ ap (λ (l : List ℕ). same l (drop i b)) (drop_next a i h)
-    ∙ ap (λ (l : List ℕ). same (get_or a i 0 ∷ drop (i + 1) a) l) (drop_next b i (omega arith))
-
-pub alike_more : (a b : List ℕ) (i : ℕ) → i < length a → get_or a i 0 ≡ get_or b i 0 → Alike a b i → Alike a b (i + 1)
-alike_more a b i h e p = record { long = p.long; inside = omega arith; rest = alike_next a b i h p ∙ same_this (get_or a i 0) (get_or b i 0) _ _ e }
-
-pub alike_not : (a b : List ℕ) (i : ℕ) → i < length a → (get_or a i 0 ≡ get_or b i 0 → ⊥) → Alike a b i → same a b ≡ false
-alike_not a b i h e p = alike_next a b i h p ∙ same_other (get_or a i 0) (get_or b i 0) _ _ e
-
-pub alike_all : (a b : List ℕ) (i : ℕ) → length a ≤ i → Alike a b i → same a b ≡ true
-unfolding same
-alike_all a b i h p =
-    let inside = p.inside in
-    let long = p.long in
-    p.rest
-    ∙ ap (λ (l : List ℕ). same l (drop i b)) (drop_end a i (omega arith))
-    ∙ ap (λ (l : List ℕ). same [] l) (drop_end b i (omega arith))
+equal_is [] [] = refl
+equal_is [] (y ∷ m) = refl
+equal_is (x ∷ l) [] = refl
+equal_is (x ∷ l) (y ∷ m) = ap (λ (t : Bool). nat_eq x y && t) (equal_is l m)
 
 -- ---- a size
 -- the largest number of so many digits
@@ -130,27 +96,19 @@ pub record Counted (l : List ℕ) (v i : ℕ) : Type 0 where
 pub counted_small : (l : List ℕ) (v i : ℕ) → Counted l v i → v ≤ 99999
 counted_small l v i p = let a = p.few in let b = p.inside in let c = p.least in omega (arith, most_5 i (omega arith))
 
-is_digit : (b : ℕ) → 48 ≤ b → b ≤ 57 → digit b ≡ true
-is_digit b h k = ap (λ (t : Bool). t && leb b 57) (le-leb 48 b h) ∙ le-leb b 57 k
+digit_is : (b : ℕ) → digit b ≡ true → (48 ≤ b) × (b ≤ 57)
+digit_is b e = let p = both (leb 48 b) (leb b 57) e in (leb-true 48 b p.0, leb-true b 57 p.1)
 
-not_digit : (b : ℕ) → (48 ≤ b → b ≤ 57 → ⊥) → digit b ≡ false
-not_digit b h = go (leb 48 b) refl (leb b 57) refl
-  where
-    go : (t : Bool) → leb 48 b ≡ t → (u : Bool) → leb b 57 ≡ u → (t && u) ≡ false
-    go false e u f = refl
-    go true e false f = refl
-    go true e true f = absurd (h (leb-true 48 b e) (leb-true b 57 f))
-
-pub counted_more : (l : List ℕ) (v i : ℕ) → i < length l → 48 ≤ get_or l i 0 → get_or l i 0 ≤ 57 → Counted l v i → Counted l (10 * v + (get_or l i 0 - 48)) (i + 1)
+pub counted_more : (l : List ℕ) (v i : ℕ) → i < length l → digit (get_or l i 0) ≡ true → Counted l v i → Counted l (10 * v + (get_or l i 0 - 48)) (i + 1)
 unfolding worth digits
-counted_more l v i h low high p =
+counted_more l v i h d p =
     let least = p.least in
     record {
       few = p.few;
       inside = omega arith;
-      least = omega (arith, most_next i);
+      least = omega (arith, most_next i, digit_is (get_or l i 0) d);
       value = p.value ∙ ap (worth v) (drop_next l i h);
-      good = p.good ∙ ap digits (drop_next l i h) ∙ ap (λ (t : Bool). t && digits (drop (i + 1) l)) (is_digit (get_or l i 0) low high);
+      good = p.good ∙ ap digits (drop_next l i h) ∙ ap (λ (t : Bool). t && digits (drop (i + 1) l)) d;
     }
 
 pub size-long : (l : List ℕ) → 5 < length l → size l ≡ 0
@@ -165,10 +123,10 @@ size_other l e = go (leb (length l) 5)
     go false = refl
     go true = ap (λ (t : Bool). cond (t && leb (worth 0 l) 16384) (worth 0 l) 0) e
 
-pub counted_not : (l : List ℕ) (v i : ℕ) → i < length l → (48 ≤ get_or l i 0 → get_or l i 0 ≤ 57 → ⊥) → Counted l v i → size l ≡ 0
+pub counted_not : (l : List ℕ) (v i : ℕ) → i < length l → digit (get_or l i 0) ≡ false → Counted l v i → size l ≡ 0
 unfolding digits
 counted_not l v i h bad p =
-    size_other l (p.good ∙ ap digits (drop_next l i h) ∙ ap (λ (t : Bool). t && digits (drop (i + 1) l)) (not_digit (get_or l i 0) bad))
+    size_other l (p.good ∙ ap digits (drop_next l i h) ∙ ap (λ (t : Bool). t && digits (drop (i + 1) l)) bad)
 
 -- all are digits
 size-digits : (l : List ℕ) (v : ℕ) → length l ≤ 5 → digits l ≡ true → worth 0 l ≡ v → size l ≡ cond (leb v 16384) v 0
@@ -191,242 +149,257 @@ counted_large l v i h k p = counted_end l v i h p ∙ ap (λ (t : Bool). cond t 
 pub counted_all : (l : List ℕ) (v i : ℕ) → length l ≤ i → v ≤ 16384 → Counted l v i → size l ≡ v
 counted_all l v i h k p = counted_end l v i h p ∙ ap (λ (t : Bool). cond t v 0) (le-leb v 16384 k)
 
--- ---- what is told
-pub width_twice : (n : ℕ) (t : Told) → (t.width ≡ 0 → ⊥) → tell_width n t ≡ broken
-unfolding tell_width
-width_twice n t h = simp (ne_eqb t.width 0 h)
+-- a size, where it is one
+pub no_size : (l : List ℕ) → size l ≡ 0 → None ≡ some_size (size l)
+no_size l e = sym (ap some_size e)
 
-pub width_none : (n : ℕ) (t : Told) → t.width ≡ 0 → n ≡ 0 → tell_width n t ≡ broken
-unfolding tell_width
-width_none n t h k = simp (eq-eqb t.width 0 h, eq-eqb n 0 k)
+pub is_size : (l : List ℕ) (v : ℕ) → 1 ≤ v → size l ≡ v → Some v ≡ some_size (size l)
+is_size l v h e = sym (ap some_size e ∙ ap (λ (t : Bool). cond t None (Some v)) (ne_eqb v 0 (λ z. omega arith)))
 
-pub width-told : (n : ℕ) (t : Told) → t.width ≡ 0 → (n ≡ 0 → ⊥) → tell_width n t ≡ record { good = t.good; width = n; height = t.height; colour = t.colour }
-unfolding tell_width
-width-told n t h k = simp (eq-eqb t.width 0 h, ne_eqb n 0 k)
+pub of_no_size : (n : ℕ) → None ≡ some_size n → n ≡ 0
+of_no_size n e = go (eqb n 0) refl e
+  where
+    go : (b : Bool) → eqb n 0 ≡ b → None ≡ cond b None (Some n) → n ≡ 0
+    go true t q = eqb-true n 0 t
+    go false t q = cc
 
-pub height_twice : (n : ℕ) (t : Told) → (t.height ≡ 0 → ⊥) → tell_height n t ≡ broken
-unfolding tell_height
-height_twice n t h = simp (ne_eqb t.height 0 h)
+pub of_size : (n v : ℕ) → Some v ≡ some_size n → (n ≡ v) × (1 ≤ v)
+of_size n v e = go (eqb n 0) refl e
+  where
+    go : (b : Bool) → eqb n 0 ≡ b → Some v ≡ cond b None (Some n) → (n ≡ v) × (1 ≤ v)
+    go true t q = cc
+    go false t q = let is : n ≡ v = cc in (is, omega (arith, eqb-false n 0 t))
 
-pub height_none : (n : ℕ) (t : Told) → t.height ≡ 0 → n ≡ 0 → tell_height n t ≡ broken
-unfolding tell_height
-height_none n t h k = simp (eq-eqb t.height 0 h, eq-eqb n 0 k)
+untold : (o : Option ℕ) → is_none o ≡ true → unwrap_or o 0 ≡ 0
+untold None e = refl
+untold (Some n) e = cc
 
-pub height-told : (n : ℕ) (t : Told) → t.height ≡ 0 → (n ≡ 0 → ⊥) → tell_height n t ≡ record { good = t.good; width = t.width; height = n; colour = t.colour }
-unfolding tell_height
-height-told n t h k = simp (eq-eqb t.height 0 h, ne_eqb n 0 k)
+is-told : (o : Option ℕ) → ForSome o (λ n. 1 ≤ n) → is_none o ≡ false → unwrap_or o 0 ≡ 0 → ⊥
+is-told None f e z = cc
+is-told (Some n) f e z = let h : 1 ≤ n = f n refl in omega arith
 
-pub colour_twice : (known : Bool) (t : Told) → t.colour ≡ true → tell_colour known t ≡ broken
-unfolding tell_colour
-colour_twice known t h = simp h
-
-pub colour_unknown : (known : Bool) (t : Told) → t.colour ≡ false → known ≡ false → tell_colour known t ≡ broken
-unfolding tell_colour
-colour_unknown known t h k = simp (h, k)
-
-pub colour-told : (known : Bool) (t : Told) → t.colour ≡ false → known ≡ true → tell_colour known t ≡ record { good = t.good; width = t.width; height = t.height; colour = true }
-unfolding tell_colour
-colour-told known t h k = simp (h, k)
+some_least : (v : ℕ) → 1 ≤ v → ForSome (Some v) (λ n. 1 ≤ n)
+some_least v h n e = let is : v ≡ n = cc in omega arith
 
 -- ---- one parameter
-pub tell_empty : (t : Told) (l : List ℕ) → length l ≡ 0 → tell t l ≡ broken
+pub tell_empty : (t : Told) (l : List ℕ) → length l ≡ 0 → (tell t l).good ≡ false
 unfolding tell
 tell_empty t [] h = refl
 tell_empty t (x ∷ l) h = absurd (omega arith)
 
-pub tell_W : (t : Told) (l : List ℕ) → (length l ≡ 0 → ⊥) → get_or l 0 0 ≡ 87 → tell t l ≡ tell_width (size (drop 1 l)) t
-unfolding tell
-tell_W t [] h a = absurd (h refl)
-tell_W t (x ∷ l) h a = simp (eq-eqb x 87 a)
+module _ (p : Parameters) (word : List ℕ) (name : ℕ) (rest : List ℕ) (parted : word ≡ name ∷ rest) (sound : Sound p) where
+  tell_is : tell (so_far p) word ≡ cond (eqb name 87) (tell_width (size rest) (so_far p)) (cond (eqb name 72) (tell_height (size rest) (so_far p))
+      (cond (eqb name 67) (tell_colour (same rest jpeg420) (so_far p)) (so_far p)))
+  unfolding tell
+  tell_is = ap (tell (so_far p)) parted
 
-pub tell_H : (t : Told) (l : List ℕ) → (length l ≡ 0 → ⊥) → get_or l 0 0 ≡ 72 → tell t l ≡ tell_height (size (drop 1 l)) t
-unfolding tell
-tell_H t [] h a = absurd (h refl)
-tell_H t (x ∷ l) h a = simp (ne_eqb x 87 (λ b. omega arith), eq-eqb x 72 a)
+  tell_W : name ≡ 87 → tell (so_far p) word ≡ tell_width (size rest) (so_far p)
+  tell_W a = tell_is ∙ simp (eq-eqb name 87 a)
 
-pub tell_C : (t : Told) (l : List ℕ) → (length l ≡ 0 → ⊥) → get_or l 0 0 ≡ 67 → tell t l ≡ tell_colour (same (drop 1 l) jpeg420) t
-unfolding tell
-tell_C t [] h a = absurd (h refl)
-tell_C t (x ∷ l) h a = simp (ne_eqb x 87 (λ b. omega arith), ne_eqb x 72 (λ b. omega arith), eq-eqb x 67 a)
+  tell_H : name ≡ 72 → tell (so_far p) word ≡ tell_height (size rest) (so_far p)
+  tell_H a = tell_is ∙ simp (ne_eqb name 87 (λ b. omega arith), eq-eqb name 72 a)
 
-pub tell_other : (t : Told) (l : List ℕ) → (length l ≡ 0 → ⊥) → (get_or l 0 0 ≡ 87 → ⊥) → (get_or l 0 0 ≡ 72 → ⊥) → (get_or l 0 0 ≡ 67 → ⊥) → tell t l ≡ t
-unfolding tell
-tell_other t [] h a b d = absurd (h refl)
-tell_other t (x ∷ l) h a b d = simp (ne_eqb x 87 a, ne_eqb x 72 b, ne_eqb x 67 d)
+  tell_C : name ≡ 67 → tell (so_far p) word ≡ tell_colour (same rest jpeg420) (so_far p)
+  tell_C a = tell_is ∙ simp (ne_eqb name 87 (λ b. omega arith), ne_eqb name 72 (λ b. omega arith), eq-eqb name 67 a)
 
--- what the code does with the rest of the word, from its second byte on
-rest_of : (l : List ℕ) (k : ℕ) → take (length l - k) (drop k l) ≡ drop k l
-rest_of l k = take_all (length l - k) (drop k l) (omega (arith, length-drop k l))
+  pub tell_other : (name ≡ 87 → ⊥) → (name ≡ 72 → ⊥) → (name ≡ 67 → ⊥) → Kept (tell (so_far p) word) p
+  tell_other a b d = record { is = tell_is ∙ simp (ne_eqb name 87 a, ne_eqb name 72 b, ne_eqb name 67 d); sound = sound }
 
-pub tells_W : (t : Told) (l : List ℕ) (n : ℕ) (r : Told) → (length l ≡ 0 → ⊥) → get_or l 0 0 ≡ 87 → n ≡ size (take (length l - 1) (drop 1 l)) → r ≡ tell_width n t
-    → r ≡ tell t l
-tells_W t l n r h a e f = f ∙ ap (λ (m : ℕ). tell_width m t) (e ∙ ap size (rest_of l 1)) ∙ sym (tell_W t l h a)
+  pub width_twice : name ≡ 87 → is_none p.width ≡ false → (tell (so_far p) word).good ≡ false
+  unfolding tell_width
+  width_twice a h = let e : tell (so_far p) word ≡ broken = tell_W a ∙ simp (ne_eqb (so_far p).width 0 (is-told p.width sound.wide h)) in ap (λ (t : Told). t.good) e
 
-pub tells_H : (t : Told) (l : List ℕ) (n : ℕ) (r : Told) → (length l ≡ 0 → ⊥) → get_or l 0 0 ≡ 72 → n ≡ size (take (length l - 1) (drop 1 l)) → r ≡ tell_height n t
-    → r ≡ tell t l
-tells_H t l n r h a e f = f ∙ ap (λ (m : ℕ). tell_height m t) (e ∙ ap size (rest_of l 1)) ∙ sym (tell_H t l h a)
+  pub width_none : name ≡ 87 → is_none p.width ≡ true → None ≡ some_size (size rest) → (tell (so_far p) word).good ≡ false
+  unfolding tell_width
+  width_none a h k = let e : tell (so_far p) word ≡ broken = tell_W a ∙ simp (eq-eqb (so_far p).width 0 (untold p.width h), eq-eqb (size rest) 0 (of_no_size _ k)) in ap (λ (t : Told). t.good) e
 
-pub tells_C : (t : Told) (l : List ℕ) (n : Bool) (r : Told) → (length l ≡ 0 → ⊥) → get_or l 0 0 ≡ 67 → n ≡ same (take (length l - 1) (drop 1 l)) jpeg420
-    → r ≡ tell_colour n t → r ≡ tell t l
-tells_C t l n r h a e f = f ∙ ap (λ (m : Bool). tell_colour m t) (e ∙ ap (λ (m : List ℕ). same m jpeg420) (rest_of l 1)) ∙ sym (tell_C t l h a)
+  pub width-told : (v : ℕ) → name ≡ 87 → is_none p.width ≡ true → Some v ≡ some_size (size rest) → Kept (tell (so_far p) word) (record { width = Some v; height = p.height; colour = p.colour })
+  unfolding tell_width
+  width-told v a h k =
+      let s = of_size (size rest) v k in
+      let e : tell_width (size rest) (so_far p) ≡ record { good = true; width = size rest; height = unwrap_or p.height 0; colour = p.colour } =
+      simp (eq-eqb (so_far p).width 0 (untold p.width h), ne_eqb (size rest) 0 (λ z. omega (arith, s))) in
+      record {
+        is = tell_W a ∙ e ∙ ap (λ (n : ℕ). record { good = true; width = n; height = unwrap_or p.height 0; colour = p.colour }) s.0;
+        sound = record { wide = some_least v s.1; high = sound.high };
+      }
+
+  pub height_twice : name ≡ 72 → is_none p.height ≡ false → (tell (so_far p) word).good ≡ false
+  unfolding tell_height
+  height_twice a h = let e : tell (so_far p) word ≡ broken = tell_H a ∙ simp (ne_eqb (so_far p).height 0 (is-told p.height sound.high h)) in ap (λ (t : Told). t.good) e
+
+  pub height_none : name ≡ 72 → is_none p.height ≡ true → None ≡ some_size (size rest) → (tell (so_far p) word).good ≡ false
+  unfolding tell_height
+  height_none a h k = let e : tell (so_far p) word ≡ broken = tell_H a ∙ simp (eq-eqb (so_far p).height 0 (untold p.height h), eq-eqb (size rest) 0 (of_no_size _ k)) in ap (λ (t : Told). t.good) e
+
+  pub height-told : (v : ℕ) → name ≡ 72 → is_none p.height ≡ true → Some v ≡ some_size (size rest) → Kept (tell (so_far p) word) (record { width = p.width; height = Some v; colour = p.colour })
+  unfolding tell_height
+  height-told v a h k =
+      let s = of_size (size rest) v k in
+      let e : tell_height (size rest) (so_far p) ≡ record { good = true; width = unwrap_or p.width 0; height = size rest; colour = p.colour } =
+      simp (eq-eqb (so_far p).height 0 (untold p.height h), ne_eqb (size rest) 0 (λ z. omega (arith, s))) in
+      record {
+        is = tell_H a ∙ e ∙ ap (λ (n : ℕ). record { good = true; width = unwrap_or p.width 0; height = n; colour = p.colour }) s.0;
+        sound = record { high = some_least v s.1; wide = sound.wide };
+      }
+
+  pub colour_twice : name ≡ 67 → p.colour ≡ true → (tell (so_far p) word).good ≡ false
+  unfolding tell_colour
+  colour_twice a h = let e : tell (so_far p) word ≡ broken = tell_C a ∙ simp h in ap (λ (t : Told). t.good) e
+
+  pub colour_unknown : name ≡ 67 → p.colour ≡ false → pointwise nat_eq rest jpeg420 ≡ false → (tell (so_far p) word).good ≡ false
+  unfolding tell_colour
+  colour_unknown a h k = let e : tell (so_far p) word ≡ broken = tell_C a ∙ simp (h, sym (equal_is rest jpeg420) ∙ k) in ap (λ (t : Told). t.good) e
+
+  pub colour-told : name ≡ 67 → p.colour ≡ false → pointwise nat_eq rest jpeg420 ≡ true
+      → Kept (tell (so_far p) word) (record { width = p.width; height = p.height; colour = true })
+  unfolding tell_colour
+  colour-told a h k =
+      record { is = tell_C a ∙ simp (h, sym (equal_is rest jpeg420) ∙ k); sound = record { wide = sound.wide; high = sound.high } }
 
 -- ---- the words of a line
-pub words_last : (l : List ℕ) → length l ≤ length (before 32 l) → words l ≡ before 32 l ∷ []
-unfolding words before
-words_last [] h = refl
-words_last (x ∷ l) h = go (eqb x 32) h (λ k. words_last l k)
-  where
-    go : (t : Bool) → suc (length l) ≤ length (cond t [] (x ∷ before 32 l)) → (length l ≤ length (before 32 l) → words l ≡ before 32 l ∷ [])
-        → cond t ([] ∷ words l) (onto x (words l)) ≡ cond t [] (x ∷ before 32 l) ∷ []
-    go true h e = absurd (omega arith)
-    go false h e = ap (onto x) (e (omega arith))
+onto_is : (x : ℕ) (ws : List (List ℕ)) → onto x ws ≡ onto_first x ws
+onto_is x [] = refl
+onto_is x (w ∷ ws) = refl
 
-pub words_more : (l : List ℕ) → length (before 32 l) < length l → words l ≡ before 32 l ∷ words (drop (suc (length (before 32 l))) l)
-unfolding words before
-words_more [] h = absurd (omega arith)
-words_more (x ∷ l) h = go (eqb x 32) h (λ k. words_more l k)
-  where
-    go : (t : Bool) → length (cond t [] (x ∷ before 32 l)) < suc (length l)
-        → (length (before 32 l) < length l → words l ≡ before 32 l ∷ words (drop (suc (length (before 32 l))) l))
-        → cond t ([] ∷ words l) (onto x (words l)) ≡ cond t [] (x ∷ before 32 l) ∷ words (drop (length (cond t [] (x ∷ before 32 l))) l)
-    go true h e = refl
-    go false h e = ap (onto x) (e (omega arith))
+pub words-split : (l : List ℕ) → slice_split (λ x. eqb x 32) l ≡ words l
+unfolding words
+words-split [] = refl
+words-split (x ∷ l) =
+    ap (λ (ws : List (List ℕ)). cond (eqb x 32) ([] ∷ ws) (onto_first x ws)) (words-split l)
+    ∙ ap (λ (ws : List (List ℕ)). cond (eqb x 32) ([] ∷ words l) ws) (sym (onto_is x (words l)))
 
--- the words after byte `at`, which is a space or the line's end
-unfoldable pub words_after : List ℕ → ℕ → List (List ℕ)
-words_after l at = cond (ltb at (length l)) (words (drop (at + 1) l)) []
-
-pub words_after_lem : (l : List ℕ) (n : ℕ) → Before 32 l n → words l ≡ take n l ∷ words_after l n
-unfolding words_after
-words_after_lem l n h = go (ltb n (length l)) refl
-  where
-    first : before 32 l ≡ take n l
-    first = before-take 32 l ∙ ap (λ (m : ℕ). take m l) (sym h.is)
-
-    go : (t : Bool) → ltb n (length l) ≡ t → words l ≡ take n l ∷ cond t (words (drop (n + 1) l)) []
-    go true e =
-        let is = h.is in
-        let next : suc (length (before 32 l)) ≡ n + 1 = omega arith in
-        words_more l (omega (arith, ltb-true n (length l) e))
-        ∙ ap (λ (w : List ℕ). w ∷ words (drop (suc (length (before 32 l))) l)) first
-        ∙ ap (λ (m : ℕ). take n l ∷ words (drop m l)) next
-    go false e =
-        let is = h.is in
-        words_last l (omega (arith, ltb-false n (length l) e)) ∙ ap (λ (w : List ℕ). w ∷ []) first
-
-after_at : (l : List ℕ) (at : ℕ) → at < length l → words_after l at ≡ words (drop (at + 1) l)
-unfolding words_after
-after_at l at h = ap (λ (t : Bool). cond t (words (drop (at + 1) l)) []) (lt-ltb at (length l) h)
-
-after_end : (l : List ℕ) (at : ℕ) → length l ≤ at → words_after l at ≡ []
-unfolding words_after
-after_end l at h = ap (λ (t : Bool). cond t (words (drop (at + 1) l)) []) (le-ltb at (length l) h)
-
-after-drop : (l : List ℕ) (k n : ℕ) → words_after (drop k l) n ≡ words_after l (k + n)
-unfolding words_after
-after-drop l k n = ap (λ (m : ℕ). cond (ltb n m) (words (drop (n + 1) (drop k l))) []) (length-drop k l) ∙ go (ltb n (length l - k)) refl
-  where
-    go : (t : Bool) → ltb n (length l - k) ≡ t → cond t (words (drop (n + 1) (drop k l))) [] ≡ cond (ltb (k + n) (length l)) (words (drop (k + n + 1) l)) []
-    go true e =
-        let next : k + (n + 1) ≡ k + n + 1 = omega arith in
-        ap words (drop-drop (n + 1) k l ∙ ap (λ (m : ℕ). drop m l) next)
-        ∙ sym (ap (λ (t : Bool). cond t (words (drop (k + n + 1) l)) []) (lt-ltb (k + n) (length l) (omega (arith, ltb-true n (length l - k) e))))
-    go false e = sym (ap (λ (t : Bool). cond t (words (drop (k + n + 1) l)) []) (le-ltb (k + n) (length l) (omega (arith, ltb-false n (length l - k) e))))
-
--- the loop has heard the words up to byte `at`
-pub record Heard (l : List ℕ) (t : Told) (at : ℕ) : Type 0 where
-  pub inside : at ≤ length l
-  pub rest : told (words l) ≡ tell_all t (words_after l at)
-
-pub unmarked : (l : List ℕ) (n : ℕ) → Before 32 l n → same (take n l) mark ≡ false → told (words l) ≡ broken
+-- the first of them
+told_first : (ws : List (List ℕ)) (w : List ℕ) → 0 < length ws → w ≡ get_or ws 0 w → told ws ≡ cond (same w mark) (tell_all nothing (drop 1 ws)) broken
 unfolding told
-unmarked l n h e = ap told (words_after_lem l n h) ∙ ap (λ (t : Bool). cond t (tell_all nothing (words_after l n)) broken) e
+told_first [] w h e = absurd (omega arith)
+told_first (v ∷ ws) w h e = ap (λ (u : List ℕ). cond (same u mark) (tell_all nothing ws) broken) (sym e)
 
-pub heard_none : (l : List ℕ) (n : ℕ) → Before 32 l n → same (take n l) mark ≡ true → Heard l nothing n
-unfolding told
-heard_none l n h e =
+-- so many parameters are heard
+pub record Heard (ws : List (List ℕ)) (p : Parameters) (n : ℕ) : Type 0 where
+  pub inside : n < length ws
+  pub rest : told ws ≡ tell_all (so_far p) (drop (suc n) ws)
+  pub sound : Sound p
+
+pub unmarked : (ws : List (List ℕ)) (w : List ℕ) → 0 < length ws → w ≡ get_or ws 0 w → pointwise nat_eq w mark ≡ false → (told ws).good ≡ false
+unmarked ws w h e t = ap (λ (u : Told). u.good) (told_first ws w h e ∙ ap (λ (b : Bool). cond b (tell_all nothing (drop 1 ws)) broken) (sym (equal_is w mark) ∙ t))
+
+pub heard_none : (ws : List (List ℕ)) (w : List ℕ) → 0 < length ws → w ≡ get_or ws 0 w → pointwise nat_eq w mark ≡ true
+    → Heard ws (record { width = None; height = None; colour = false }) 0
+heard_none ws w h e t =
     record {
-      inside = h.inside;
-      rest = ap told (words_after_lem l n h) ∙ ap (λ (t : Bool). cond t (tell_all nothing (words_after l n)) broken) e;
+      inside = h;
+      rest = told_first ws w h e ∙ ap (λ (b : Bool). cond b (tell_all nothing (drop 1 ws)) broken) (sym (equal_is w mark) ∙ t);
+      sound = record { wide = λ n e. cc; high = λ n e. cc };
     }
 
-pub heard_more : (l : List ℕ) (t : Told) (at n : ℕ) → at < length l → Before 32 (drop (at + 1) l) n → Heard l t at
-    → Heard l (tell t (take n (drop (at + 1) l))) (at + 1 + n)
+-- one more
+heard_one : (ws : List (List ℕ)) (w : List ℕ) (p : Parameters) (n : ℕ) → suc n < length ws → w ≡ get_or ws (suc n) w → Heard ws p n
+    → told ws ≡ tell_all (tell (so_far p) w) (drop (suc (suc n)) ws)
 unfolding tell_all
-heard_more l t at n h b p =
-    let inside = b.inside in
-    record {
-      inside = omega (arith, length-drop (at + 1) l);
-      rest =
-          p.rest
-          ∙ ap (tell_all t) (after_at l at h ∙ words_after_lem (drop (at + 1) l) n b)
-          ∙ ap (tell_all (tell t (take n (drop (at + 1) l)))) (after-drop l (at + 1) n);
-    }
+heard_one ws w p n h e q =
+    q.rest ∙ ap (tell_all (so_far p)) (drop-cons ws (suc n) w h ∙ ap (λ (v : List ℕ). v ∷ drop (suc (suc n)) ws) (sym e))
 
--- as the code has it, by parts of the line
-pub heard_next : (l : List ℕ) (t r : Told) (at n : ℕ) → at < length l → Before 32 (take (length l - (at + 1)) (drop (at + 1) l)) n
-    → r ≡ tell t (take (at + 1 + n - (at + 1)) (drop (at + 1) l)) → Heard l t at → Heard l r (at + 1 + n)
-heard_next l t r at n h b e p =
-    let k : at + 1 + n - (at + 1) ≡ n = omega arith in
-    let f : tell t (take n (drop (at + 1) l)) ≡ r = sym (e ∙ ap (λ (m : ℕ). tell t (take m (drop (at + 1) l))) k) in
-    subst (λ (x : Told). Heard l x (at + 1 + n)) f (heard_more l t at n h (subst (λ (m : List ℕ). Before 32 m n) (rest_of l (at + 1)) b) p)
+pub heard_more : (ws : List (List ℕ)) (w : List ℕ) (p r : Parameters) (n : ℕ) → suc n < length ws → w ≡ get_or ws (suc n) w → Kept (tell (so_far p) w) r → Heard ws p n
+    → Heard ws r (suc n)
+heard_more ws w p r n h e t q = record { inside = h; rest = heard_one ws w p n h e q ∙ ap (λ (u : Told). tell_all u (drop (suc (suc n)) ws)) t.is; sound = t.sound }
 
-pub heard_all : (l : List ℕ) (t : Told) (at : ℕ) → length l ≤ at → Heard l t at → told (words l) ≡ t
+bad_stays : (t : Told) (ws : List (List ℕ)) → t.good ≡ false → (tell_all t ws).good ≡ false
+bad_stays t ws e = go (tell_all t ws).good refl
+  where
+    go : (b : Bool) → (tell_all t ws).good ≡ b → b ≡ false
+    go true q = let f : t.good ≡ true = all-good t ws q in cc
+    go false q = refl
+
+pub heard_bad : (ws : List (List ℕ)) (w : List ℕ) (p : Parameters) (n : ℕ) → suc n < length ws → w ≡ get_or ws (suc n) w → (tell (so_far p) w).good ≡ false → Heard ws p n
+    → (told ws).good ≡ false
+heard_bad ws w p n h e t q = ap (λ (u : Told). u.good) (heard_one ws w p n h e q) ∙ bad_stays (tell (so_far p) w) (drop (suc (suc n)) ws) t
+
+pub heard_all : (ws : List (List ℕ)) (p : Parameters) (n : ℕ) → suc n ≡ length ws → Heard ws p n → Kept (told ws) p
 unfolding tell_all
-heard_all l t at h p = p.rest ∙ ap (tell_all t) (after_end l at h)
+heard_all ws p n e q =
+    record { is = q.rest ∙ ap (λ (k : ℕ). tell_all (so_far p) (drop k ws)) e ∙ ap (tell_all (so_far p)) (drop-length ws); sound = q.sound }
+
+-- ---- the words that `split` yields: all of the line, and after the first the others. One step of its own tells which closure it has
+pub words_yielded : {F : Type 0} {g : Mut F (Bor ℕ × Unit {0}) Bool} {s : Split ℕ F} (u : Split ℕ F) (r : Option (Bor (List ℕ))) (l : List ℕ) {f : F} → split_steps g s r u
+    → split_rest s ≡ l → split_done s ≡ false → split_callee s ≡ f → ((x : ℕ) (b : Bool) (q : F) → CalledAt g f x b q → (q ≡ f) × (b ≡ eqb x 32))
+    → YieldsList (split_steps g) (λ x. x.now) s (words l)
+words_yielded {g = g} {s = s} u r l step rest done closure calls =
+    subst (YieldsList (split_steps g) (λ x. x.now) s) (words-split l) (YieldsList-from_slice_split g (λ x. eqb x 32) l rest done closure calls)
+
+pub after_first : {S A B : Type 0} {steps : S → Option A → S → Type 0} {v : A → B} {s : S} {all : List B} → YieldsList steps v s all → (x : A) (j k : S) → steps s (Some x) j → k ≡ j
+    → (xs : List A) (t : S) → Yields steps k xs t → Yields steps s (x ∷ xs) t
+after_first {steps = steps} {s = s} e x j k h i xs t y = (k, subst (steps s (Some x)) (sym i) h, y)
 
 -- ---- the header
-pub head_bad : (t : Told) (n : ℕ) → t.good ≡ false → heading t n ≡ refused
-unfolding heading
-head_bad t n e = simp e
-
-pub head_no_width : (t : Told) (n : ℕ) → t.good ≡ true → t.width ≡ 0 → heading t n ≡ refused
-unfolding heading
-head_no_width t n e w = simp (e, eq-eqb t.width 0 w)
-
-pub head_no_height : (t : Told) (n : ℕ) → t.good ≡ true → (t.width ≡ 0 → ⊥) → t.height ≡ 0 → heading t n ≡ refused
-unfolding heading
-head_no_height t n e w h = simp (e, ne_eqb t.width 0 w, eq-eqb t.height 0 h)
-
-pub head_done : (t : Told) (n : ℕ) → t.good ≡ true → (t.width ≡ 0 → ⊥) → (t.height ≡ 0 → ⊥)
-    → heading t n ≡ record { number = 0; width = t.width; height = t.height; taken = n }
-unfolding heading
-head_done t n e w h = simp (e, ne_eqb t.width 0 w, ne_eqb t.height 0 h)
-
-take-least : (file : List ℕ) (limit : ℕ) → limit ≡ min 256 (length file) → take limit file ≡ take 256 file
+take-least : (file : List ℕ) (limit : ℕ) → limit ≡ min (length file) 256 → take limit file ≡ take 256 file
 take-least file limit e = go (ltb 256 (length file)) refl
   where
     go : (t : Bool) → ltb 256 (length file) ≡ t → take limit file ≡ take 256 file
     go true q = let h = ltb-true 256 (length file) q in let all : limit ≡ 256 = omega arith in ap (λ (n : ℕ). take n file) all
     go false q = let h = ltb-false 256 (length file) q in take_all limit file (omega arith) ∙ sym (take_all 256 file h)
 
-pub no_newline : (file : List ℕ) (limit n : ℕ) → limit ≡ min 256 (length file) → Before 10 (take limit file) n → n ≡ limit → header_of file ≡ refused
+pub line_found : (file : List ℕ) (most : ℕ) (r : Option ℕ) → most ≡ min (length file) 256
+    → r ≡ cond (ltb (position_or_len (λ x. eqb x 10) (take most file)) (length (take most file))) (Some (position_or_len (λ x. eqb x 10) (take most file))) None
+    → r ≡ cond (ended file) (Some (length (line file))) None
+line_found file most r e q =
+    q
+    ∙ ap (λ (n : ℕ). cond (ltb n (length (take most file))) (Some n) None) (sym (length-before 10 (take most file)))
+    ∙ ap (λ (l : List ℕ). cond (ltb (length (before 10 l)) (length l)) (Some (length (before 10 l))) None) (take-least file most e)
+
+pub no_line : (file : List ℕ) → None ≡ cond (ended file) (Some (length (line file))) None → header_of file ≡ refused
 unfolding header_of
-no_newline file limit n e b q =
-    let s = take-least file limit e in
-    let is : n ≡ length (line file) = b.is ∙ ap (λ (l : List ℕ). length (before 10 l)) s in
-    ap (λ (t : Bool). cond t (heading (told (words (line file))) (length (line file) + 1)) refused)
-    (le-ltb (length (line file)) (length (take 256 file)) (omega (arith, length-take 256 file)))
+no_line file e = go (ended file) e
+  where
+    go : (t : Bool) → None ≡ cond t (Some (length (line file))) None → cond t (heading (told (words (line file))) (length (line file) + 1)) refused ≡ refused
+    go true q = cc
+    go false q = refl
 
-pub newline : (file : List ℕ) (limit n : ℕ) → limit ≡ min 256 (length file) → Before 10 (take limit file) n → (n ≡ limit → ⊥)
-    → header_of file ≡ heading (told (words (take n file))) (n + 1)
+pub line_inside : (file : List ℕ) (n : ℕ) → Some n ≡ cond (ended file) (Some (length (line file))) None → n < length (take 256 file)
+line_inside file n e = go (ended file) refl e
+  where
+    go : (t : Bool) → ended file ≡ t → Some n ≡ cond t (Some (length (line file))) None → n < length (take 256 file)
+    go true p q = let is : n ≡ length (line file) = cc in omega (arith, ltb-true (length (line file)) (length (take 256 file)) p)
+    go false p q = cc
+
+pub has_line : (file : List ℕ) (n : ℕ) → Some n ≡ cond (ended file) (Some (length (line file))) None → header_of file ≡ heading (told (words (take n file))) (n + 1)
 unfolding header_of
-newline file limit n e b q =
-    let s = take-least file limit e in
-    let is : n ≡ length (line file) = b.is ∙ ap (λ (l : List ℕ). length (before 10 l)) s in
-    let inside = b.inside in
-    let long = length-take limit file in
-    let l : line file ≡ take n file =
-    before-take 10 (take 256 file) ∙ ap (λ (k : ℕ). take k (take 256 file)) (sym is) ∙ take-take n 256 file (omega arith) in
-    ap (λ (t : Bool). cond t (heading (told (words (line file))) (length (line file) + 1)) refused)
-    (lt-ltb (length (line file)) (length (take 256 file)) (omega (arith, length-take 256 file)))
-    ∙ ap (λ (m : List ℕ). heading (told (words m)) (length (line file) + 1)) l
-    ∙ ap (λ (k : ℕ). heading (told (words (take n file))) (k + 1)) (sym is)
+has_line file n e = go (ended file) refl e
+  where
+    go : (t : Bool) → ended file ≡ t → Some n ≡ cond t (Some (length (line file))) None
+        → cond t (heading (told (words (line file))) (length (line file) + 1)) refused ≡ heading (told (words (take n file))) (n + 1)
+    go true p q =
+        let is : n ≡ length (line file) = cc in
+        let h : n < length (take 256 file) = omega (arith, ltb-true (length (line file)) (length (take 256 file)) p) in
+        let l : line file ≡ take n file =
+        before-take 10 (take 256 file) ∙ ap (λ (k : ℕ). take k (take 256 file)) (sym is) ∙ take-take n 256 file (omega (arith, length-take 256 file)) in
+        ap (λ (m : List ℕ). heading (told (words m)) (length (line file) + 1)) l ∙ ap (λ (k : ℕ). heading (told (words (take n file))) (k + 1)) (sym is)
+    go false p q = cc
 
--- the call's two answers, as the code has them
-pub refuses : (file : List ℕ) (limit n : ℕ) (r : Header) → limit ≡ min 256 (length file) → Before 10 (take limit file) n → n ≡ limit → r ≡ refused → r ≡ header_of file
-refuses file limit n r e b q f = f ∙ sym (no_newline file limit n e b q)
+-- a line that breaks a rule is refused
+pub heading_bad : (t : Told) (n : ℕ) → t.good ≡ false → heading t n ≡ refused
+unfolding heading
+heading_bad t n e = simp e
 
-pub reads : (file : List ℕ) (limit n : ℕ) (t : Told) (r : Header) → limit ≡ min 256 (length file) → Before 10 (take limit file) n → (n ≡ limit → ⊥)
-    → t ≡ told (words (take n file)) → r ≡ heading t (n + 1) → r ≡ header_of file
-reads file limit n t r e b q f g = g ∙ ap (λ (u : Told). heading u (n + 1)) f ∙ sym (newline file limit n e b q)
+-- ---- the two sizes
+pub head_no_width : (p : Parameters) (n : ℕ) → p.width ≡ None → refused ≡ heading (so_far p) n
+unfolding heading
+head_no_width p n e = sym (simp (eq-eqb (so_far p).width 0 (ap (λ (o : Option ℕ). unwrap_or o 0) e)))
+
+pub head_no_height : (p : Parameters) (n v : ℕ) → Sound p → p.width ≡ Some v → p.height ≡ None → refused ≡ heading (so_far p) n
+unfolding heading
+head_no_height p n v s d e =
+    let some = s.wide v d in
+    let w : (so_far p).width ≡ v = ap (λ (o : Option ℕ). unwrap_or o 0) d in
+    sym (simp (ne_eqb (so_far p).width 0 (λ z. omega arith), eq-eqb (so_far p).height 0 (ap (λ (o : Option ℕ). unwrap_or o 0) e)))
+
+pub head_done : (p : Parameters) (n v u : ℕ) → Sound p → p.width ≡ Some v → p.height ≡ Some u → ◌≡◌ {A = HeaderAnswer} (record { number = 0; width = v; height = u; taken = n }) (heading (so_far p) n)
+unfolding heading
+head_done p n v u s d e =
+    let some = s.wide v d in
+    let some' = s.high u e in
+    let w : (so_far p).width ≡ v = ap (λ (o : Option ℕ). unwrap_or o 0) d in
+    let h : (so_far p).height ≡ u = ap (λ (o : Option ℕ). unwrap_or o 0) e in
+    let both : heading (so_far p) n ≡ record { number = 0; width = (so_far p).width; height = (so_far p).height; taken = n } =
+    simp (ne_eqb (so_far p).width 0 (λ z. omega arith), ne_eqb (so_far p).height 0 (λ z. omega arith)) in
+    sym (both ∙ (λ i. record { number = 0; width = w i; height = h i; taken = n }))

@@ -6,10 +6,9 @@ use Rattle.std.proofs.Math.Bool.{true, false, cond, not}
 use Rattle.std.proofs.Math.Dec.{eqb}
 use borrow.Author.Tests.{eq-eqb, ne_eqb, not-true}
 use Rattle.y4m_header.specs.Words.{same, worth}
-use Rattle.y4m_header.specs.HeaderLine.{jpeg420, size, nothing, broken, tell_width, tell_height, tell_colour, tell, tell_all, complete, heading, header_of}
+use Rattle.y4m_header.specs.HeaderLine.{Told, jpeg420, size, nothing, broken, tell_width, tell_height, tell_colour, tell, tell_all, complete, heading, header_of}
 use Rattle.y4m_header.proofs.Definitions.{both, Word, AllWords, no_word, word}
 use Rattle.y4m_header.proofs.Theorems.{line_of, header_means, IsSize, size_is, size_word}
-use Rattle.y4m_header.specs.declared.header_line.Told.{Told}
 
 -- the digits a after W, the digits b after H
 unfoldable pub resized : List ℕ → List ℕ → List ℕ → List ℕ
@@ -125,7 +124,7 @@ good_before t (name ∷ l) e =
     go false false true i j false e = absurd (clash e)
     go false false false i j k e = e
 
-all-good : (t : Told) (ps : List (List ℕ)) → (tell_all t ps).good ≡ true → t.good ≡ true
+pub all-good : (t : Told) (ps : List (List ℕ)) → (tell_all t ps).good ≡ true → t.good ≡ true
 unfolding tell_all
 all-good t [] e = e
 all-good t (p ∷ ps) e = good_before t p (all-good (tell t p) ps e)

@@ -5,13 +5,11 @@ use Rattle.std.proofs.Common.{sym, ap, ap₂, ◌∙◌, subst, append_assoc, ar
 use Rattle.std.proofs.Math.Seq.{take-append-add}
 use Rattle.std.proofs.lemmas.Bool.{eqb-false}
 use Rattle.y4m_header.specs.Words.{before, words, same, digit, digits, worth}
-use Rattle.y4m_header.specs.HeaderLine.{mark, jpeg420, size, nothing, broken, tell_width, tell_height, tell_colour, tell, tell_all, told, line, ended, complete, refused, heading, header_of}
+use Rattle.y4m_header.specs.HeaderLine.{Told, HeaderAnswer, mark, jpeg420, size, nothing, broken, tell_width, tell_height, tell_colour, tell, tell_all, told, line, ended, complete, refused, heading, header_of}
 use Rattle.y4m_header.proofs.Definitions.{both, same_equal, above, Without, none, more, append_without, digits_without, before_end, before_without, before_split, joined, Word, AllWords, no_word, word, words-joined, joined_without, parted}
-use Rattle.y4m_header.specs.declared.header_line.Told.{Told}
-use Rattle.y4m_header.specs.declared.Header.{Header}
 
 -- THEOREM. No two outcomes meet the contract.
-pub one_header : (file : List ℕ) {r r' : Header} → r ≡ header_of file → r' ≡ header_of file → r ≡ r'
+pub one_header : (file : List ℕ) {r r' : HeaderAnswer} → r ≡ header_of file → r' ≡ header_of file → r ≡ r'
 one_header file a b = a ∙ sym b
 
 -- ---- a header is a line of parameters
@@ -93,7 +91,7 @@ header_parts file e =
     let h : length l < length front = ltb-true (length l) (length front) end in
     let p = parted l (before_without 10 front) in
     let heard : (heading (told (p.first ∷ p.others)) (length l + 1)).number ≡ 0 =
-    ap (λ (ws : List (List ℕ)). (heading (told ws) (length l + 1)).number) (sym p.words_are) ∙ ap (λ (x : Header). x.number) (sym (ended_read file end)) ∙ e in
+    ap (λ (ws : List (List ℕ)). (heading (told ws) (length l + 1)).number) (sym p.words_are) ∙ ap (λ (x : HeaderAnswer). x.number) (sym (ended_read file end)) ∙ e in
     let is : l ≡ line_of p.others = p.is ∙ ap (λ (w : List ℕ). w ++ joined p.others) (has-mark p.first p.others (length l + 1) heard) in
     let after = drop (suc (length l)) front in
     let whole : file ≡ (l ++ 10 ∷ after) ++ drop 256 file = sym (take-append-drop 256 file) ∙ ap (λ (m : List ℕ). m ++ drop 256 file) (before_split 10 front h) in
@@ -122,8 +120,8 @@ header_alone file rest e =
     let m = heading (tell_all nothing p.parameters) (length l + 1) in
     let means : header_of file ≡ m = ap header_of p.is ∙ header_means p.parameters p.rest p.words_are p.fits in
     let n : (header_of file).taken ≡ length (l ++ 10 ∷ []) =
-    ap (λ (x : Header). x.taken) means
-    ∙ taken-all (tell_all nothing p.parameters) (length l + 1) (sym (ap (λ (x : Header). x.number) means) ∙ e)
+    ap (λ (x : HeaderAnswer). x.taken) means
+    ∙ taken-all (tell_all nothing p.parameters) (length l + 1) (sym (ap (λ (x : HeaderAnswer). x.number) means) ∙ e)
     ∙ sym (length-append l (10 ∷ [])) in
     let split : file ≡ (l ++ 10 ∷ []) ++ p.rest = p.is ∙ sym (append_assoc l (10 ∷ []) p.rest) in
     let cut : take (header_of file).taken file ≡ l ++ 10 ∷ [] =
@@ -142,7 +140,7 @@ header_refused file e = go (ended file) (complete (told (words (line file)))) e
     t : Told
     t = told (words (line file))
 
-    outcome : Bool → Bool → Header
+    outcome : Bool → Bool → HeaderAnswer
     outcome a b = cond a (cond b (record { number = 0; width = t.width; height = t.height; taken = length (line file) + 1 }) refused) refused
 
     go : (a b : Bool) → ((outcome a b).number ≡ 0 → ⊥) → outcome a b ≡ refused
@@ -229,7 +227,7 @@ heading_sizes : (t : Told) (n : ℕ) → Small t → (heading t n).number ≡ 0 
 unfolding heading
 heading_sizes t n s e = go t.good (eqb t.width 0) refl (eqb t.height 0) refl e
   where
-    outcome : Bool → Bool → Bool → Header
+    outcome : Bool → Bool → Bool → HeaderAnswer
     outcome a b c = cond (a && (not b && not c)) (record { number = 0; width = t.width; height = t.height; taken = n }) refused
 
     go : (a b : Bool) → eqb t.width 0 ≡ b → (c : Bool) → eqb t.height 0 ≡ c → (outcome a b c).number ≡ 0 → InRange (outcome a b c).width × InRange (outcome a b c).height
@@ -243,8 +241,8 @@ pub header_sizes : (file : List ℕ) → (header_of file).number ≡ 0 → InRan
 header_sizes file e =
     let t = told (words (line file)) in
     let is = ended_read file (has_newline file e) in
-    subst (λ (x : Header). InRange x.width × InRange x.height) (sym is)
-    (heading_sizes t (length (line file) + 1) (told_small (words (line file))) (sym (ap (λ (x : Header). x.number) is) ∙ e))
+    subst (λ (x : HeaderAnswer). InRange x.width × InRange x.height) (sym is)
+    (heading_sizes t (length (line file) + 1) (told_small (words (line file))) (sym (ap (λ (x : HeaderAnswer). x.number) is) ∙ e))
 
 -- ---- headers of two sizes
 -- digits that are a size

@@ -1,8 +1,9 @@
 -- What a header line means. Bytes are ASCII: 10 is the newline, 32 the space, 67 C, 72 H, 87 W.
-use Rattle.std.specs.Prelude.{Bool, true, false, cond, not, ◌&&◌, List, [], ◌∷◌, ℕ, ◌+◌, length, take, leb, ltb, eqb}
+use Rattle.std.specs.Prelude.{Bool, true, false, cond, not, ◌&&◌, List, [], ◌∷◌, ℕ, ◌+◌, length, take, leb, ltb, eqb, Result}
+use Rattle.numbers.specs.declared.Refusal.{Refusal}
+use Rattle.numbers.specs.Outcome.{outcome}
 use Rattle.y4m_header.specs.Words.{before, words, same, digits, worth}
 use Rattle.y4m_header.specs.declared.Header.{Header}
-use Rattle.y4m_header.specs.declared.header_line.Told.{Told}
 
 -- YUV4MPEG2
 abbrev pub mark : List ℕ
@@ -17,6 +18,12 @@ unfoldable pub size : List ℕ → ℕ
 size l = cond (leb (length l) 5 && (digits l && leb (worth 0 l) 16384)) (worth 0 l) 0
 
 -- ---- what is told so far: a size of 0 is not told yet; no longer good once a rule is broken
+pub record Told : Type 0 where
+  pub good : Bool
+  pub width : ℕ
+  pub height : ℕ
+  pub colour : Bool
+
 abbrev pub nothing : Told
 nothing = record { good = true; width = 0; height = 0; colour = false }
 
@@ -61,11 +68,26 @@ ended file = ltb (length (line file)) (length (take 256 file))
 abbrev pub complete : Told → Bool
 complete t = t.good && (not (eqb t.width 0) && not (eqb t.height 0))
 
-abbrev pub refused : Header
+-- what a call answers: 0, the sizes and how many bytes were taken, or 12 and three zeros
+pub record HeaderAnswer : Type 0 where
+  pub number : ℕ
+  pub width : ℕ
+  pub height : ℕ
+  pub taken : ℕ
+
+abbrev pub refused : HeaderAnswer
 refused = record { number = 12; width = 0; height = 0; taken = 0 }
 
-unfoldable pub heading : Told → ℕ → Header
+unfoldable pub heading : Told → ℕ → HeaderAnswer
 heading t n = cond (complete t) (record { number = 0; width = t.width; height = t.height; taken = n }) refused
 
-unfoldable pub header_of : List ℕ → Header
+unfoldable pub header_of : List ℕ → HeaderAnswer
 header_of file = cond (ended file) (heading (told (words (line file))) (length (line file) + 1)) refused
+
+-- a function's result, told so: a header with 0, a refusal by its number
+abbrev pub header_told : Result Header Refusal → HeaderAnswer
+header_told r =
+    outcome
+    (λ h. record { number = 0; width = h.width; height = h.height; taken = h.taken })
+    (λ n. record { number = n; width = 0; height = 0; taken = 0 })
+    r

@@ -2,12 +2,10 @@
 #![tactic(auto)]
 
 pub mod header_line;
-pub mod words;
 
-// What a header tells. The three numbers after the first are 0 where the call refuses.
+// What a header tells, and how many bytes it is.
 #[derive(Clone, Copy)]
 pub struct Header {
-    pub number: u32,
     pub width: u64,
     pub height: u64,
     pub taken: u64,

@@ -2,4 +2,4 @@
 use Rattle.quarters.proofs.+luma_square.Given as goal
 
 abbrev pub decreases-luma_square : goal.decreases-luma_square
-decreases-luma_square l = l.side
+decreases-luma_square l = l.piece.side

@@ -1,13 +1,7 @@
--- `one_vector` has seen, above row i of the square's blocks, only its first vector.
-use Rattle.std.proofs.Common.{◌≡◌, ℕ, ◌+◌, ◌-◌, ◌*◌, ◌<◌, ◌≤◌}
+-- `one_vector` has seen, above row i of the piece's blocks, only its first vector.
+use Rattle.std.proofs.Common.{◌≡◌, ℕ, ◌+◌, ◌*◌, ◌<◌}
 use Rattle.rfc6386.specs.Vector.{sent}
 use Rattle.quarters.proofs.one_vector.Given as goal
 
 abbrev pub invariant-loop-i : goal.invariant-loop-i
-invariant-loop-i l = record {
-  most : l.i ≤ l.n;
-  alike : (k : ℕ) → k < l.i → (j : ℕ) → j < l.n → sent l.fn.mvs (l.first + k * 4 + j) ≡ l.v;
-}
-
-abbrev pub decreases-loop-i : goal.decreases-loop-i
-decreases-loop-i l = l.n - l.i
+invariant-loop-i l = (k : ℕ) → k < l.i → (j : ℕ) → j < l.n → sent l.fn.mvs (l.first + k * 4 + j) ≡ l.v

@@ -4,9 +4,10 @@ use Rattle.std.proofs.Math.Path.{refl, ap}
 use Rattle.std.proofs.Common.{◌∙◌, arith}
 use mathlib.Core.List.{List}
 use Rattle.std.proofs.Math.ListN.{get_or}
-use Rattle.rfc6386.specs.Vector.{Lowering}
+use Rattle.rfc6386.specs.declared.Lowering.{Lowering}
 use Rattle.rfc6386.specs.Picture.{image, predicted, block_by, block, pixels}
-use Rattle.rfc6386.specs.Macroblock.{Reference, refusal, whole_samples, split_samples, pixel_samples, no_samples, answered, whole, split}
+use Rattle.rfc6386.specs.Macroblock.{Reference, refusal, whole_samples, split_samples, pixel_samples, answered, whole, split}
+use Rattle.rfc6386.specs.Answer.{no_samples}
 use Rattle.rfc6386.specs.Channel.{Channel, side, plane_in, samples_in, whole_vector, tile_vector}
 use Rattle.rfc6386.specs.Channel.Channel.{luma, chroma_u, chroma_v}
 use Rattle.rfc6386.proofs.Laws.Refusals.{done}

@@ -9,13 +9,15 @@ use Rattle.std.proofs.Math.ListN.{length, length-append}
 use Rattle.std.proofs.Math.IntN.{pos}
 use Rattle.std.specs.Int.Signed.{le_z}
 use Rattle.signed.specs.Int.{le_z-true, int}
-use Rattle.rfc6386.specs.Vector.{Lowering, whole_part, luma_vector, sent, is_whole, mergeable, One}
+use Rattle.rfc6386.specs.Vector.{whole_part, luma_vector, sent, is_whole, mergeable, One}
+use Rattle.rfc6386.specs.declared.Lowering.{Lowering}
 use Rattle.rfc6386.specs.Raster.{tab, raster}
 use Rattle.rfc6386.specs.Sums.{sum_to}
 use Rattle.rfc6386.specs.Picture.{Plane, sample_at, image, square, pixels, halo}
 use Rattle.rfc6386.specs.Refusal.{if_done, plane_refusal}
 use Rattle.rfc6386.specs.Block.{shown, pixels4, pixels8, pixels16, halo9, halo13, halo21}
-use Rattle.rfc6386.specs.Macroblock.{subblock, no_samples, answered}
+use Rattle.rfc6386.specs.Macroblock.{subblock, answered}
+use Rattle.rfc6386.specs.Answer.{no_samples, FetchAnswer, Report}
 use Rattle.rfc6386.specs.Fetched.{Coordinate, square_of, pixels_of, halo_of, block_of, joined, tiles_of}
 use Rattle.rfc6386.specs.Clips.{no_clips}
 use Rattle.rfc6386.specs.Report.{every, same_vector, is_one, one_in, luma, reported}
@@ -27,13 +29,6 @@ use Rattle.rfc6386.proofs.Laws.Vectors.{vector}
 use Rattle.rfc6386.specs.declared.Mv.{Mv}
 use Rattle.rfc6386.specs.declared.ReconstructedMb.{ReconstructedMb}
 use Rattle.rfc6386.specs.declared.Clips.{Clips}
-use Rattle.rfc6386.specs.declared.Report.{Report}
-use Rattle.rfc6386.specs.declared.Pixels4.{Pixels4}
-use Rattle.rfc6386.specs.declared.Pixels8.{Pixels8}
-use Rattle.rfc6386.specs.declared.Pixels16.{Pixels16}
-use Rattle.rfc6386.specs.declared.Halo9.{Halo9}
-use Rattle.rfc6386.specs.declared.Halo13.{Halo13}
-use Rattle.rfc6386.specs.declared.Halo21.{Halo21}
 
 -- ---- squares and blocks
 pub length-square : (n w h : ℕ) (x y : ℤ) → length (square_of n w h x y) ≡ n * n
@@ -64,22 +59,22 @@ length-block n p x y v = at (is_whole v)
     at false = length-square (n + 5) _ _ _ _
 
 -- ---- the fetches' answers: number, samples, and the closed form of the count
-abbrev pub as_pixels4 : ℕ → List ℕ → Pixels4
+abbrev pub as_pixels4 : ℕ → List ℕ → FetchAnswer
 as_pixels4 n l = record { number = n; samples = l; fetched = if_done n 16 0 }
 
-abbrev pub as_pixels8 : ℕ → List ℕ → Pixels8
+abbrev pub as_pixels8 : ℕ → List ℕ → FetchAnswer
 as_pixels8 n l = record { number = n; samples = l; fetched = if_done n 64 0 }
 
-abbrev pub as_pixels16 : ℕ → List ℕ → Pixels16
+abbrev pub as_pixels16 : ℕ → List ℕ → FetchAnswer
 as_pixels16 n l = record { number = n; samples = l; fetched = if_done n 256 0 }
 
-abbrev pub as_halo9 : ℕ → List ℕ → Halo9
+abbrev pub as_halo9 : ℕ → List ℕ → FetchAnswer
 as_halo9 n l = record { number = n; samples = l; fetched = if_done n 81 0 }
 
-abbrev pub as_halo13 : ℕ → List ℕ → Halo13
+abbrev pub as_halo13 : ℕ → List ℕ → FetchAnswer
 as_halo13 n l = record { number = n; samples = l; fetched = if_done n 169 0 }
 
-abbrev pub as_halo21 : ℕ → List ℕ → Halo21
+abbrev pub as_halo21 : ℕ → List ℕ → FetchAnswer
 as_halo21 n l = record { number = n; samples = l; fetched = if_done n 441 0 }
 
 module _ (p : Plane) (x y : ℕ) (v : Mv) where

@@ -6,13 +6,15 @@ use Rattle.std.proofs.Math.Path.{refl, sym, ap, subst}
 use Rattle.std.proofs.Common.{ap₂, ◌∙◌, arith, ltb-false}
 use Prim.Native.Nat.{ℕ, zero, suc, ◌+◌, ◌*◌, ◌/◌, ◌<◌, ◌≤◌}
 use Rattle.rfc6386.specs.Number.{clamped}
-use Rattle.rfc6386.specs.Vector.{Lowering, whole_part}
+use Rattle.rfc6386.specs.Vector.{whole_part}
+use Rattle.rfc6386.specs.declared.Lowering.{Lowering}
 use Rattle.rfc6386.specs.Raster.{raster, written}
 use Rattle.rfc6386.specs.Picture.{Plane, Image, image, predicted, block_by, block, square, pixels, halo, halo_block}
 use Rattle.rfc6386.specs.Clips.{no_clips, block_clips, halo_clips}
 use Rattle.rfc6386.specs.Refusal.{or_else, if_done, plane_refusal, fraction_refusal, no_room}
 use Rattle.rfc6386.specs.Block.{shown, counted, fractions_refusal, filtered4, filtered8, filtered16, pixels4, pixels8, pixels16, halo9, halo13, halo21, block4, into_number, into_bytes, Into}
-use Rattle.rfc6386.specs.Macroblock.{Reference, refusal, whole_samples, split_samples, pixel_samples, no_samples, answered, fraction_left, whole, split, whole_pixel}
+use Rattle.rfc6386.specs.Macroblock.{Reference, refusal, whole_samples, split_samples, pixel_samples, answered, fraction_left, whole, split, whole_pixel}
+use Rattle.rfc6386.specs.Answer.{no_samples, BlockAnswer}
 use Rattle.rfc6386.specs.Channel.{Channel, side, plane_in, samples_in, whole_vector, tile_vector}
 use Rattle.rfc6386.specs.Channel.Channel.{luma, chroma_u, chroma_v}
 use Rattle.rfc6386.proofs.Laws.Raster.{raster-plain, written_ext}
@@ -29,9 +31,6 @@ use Rattle.rfc6386.specs.declared.Mv.{Mv}
 use Rattle.rfc6386.specs.declared.FilterSet.{FilterSet}
 use Rattle.rfc6386.specs.declared.FilterSet.TheVariants.{Bilinear}
 use Rattle.rfc6386.specs.declared.Clips.{Clips}
-use Rattle.rfc6386.specs.declared.Block4.{Block4}
-use Rattle.rfc6386.specs.declared.Block8.{Block8}
-use Rattle.rfc6386.specs.declared.Block16.{Block16}
 use Rattle.rfc6386.specs.declared.ReconstructedMb.{ReconstructedMb}
 
 -- ---- answers, by their numbers
@@ -58,13 +57,13 @@ none-clipped zero k h = h refl
 none-clipped (suc n) k h = refl
 
 -- squares of which none is clipped, and halos
-abbrev as_block4 : ℕ → List ℕ → Block4
+abbrev as_block4 : ℕ → List ℕ → BlockAnswer
 as_block4 n l = record { number = n; clips = no_clips; samples = l }
 
-abbrev as_block8 : ℕ → List ℕ → Block8
+abbrev as_block8 : ℕ → List ℕ → BlockAnswer
 as_block8 n l = record { number = n; clips = no_clips; samples = l }
 
-abbrev as_block16 : ℕ → List ℕ → Block16
+abbrev as_block16 : ℕ → List ℕ → BlockAnswer
 as_block16 n l = record { number = n; clips = no_clips; samples = l }
 
 -- ---- bytes outside the picture alter nothing

@@ -2,14 +2,14 @@
 use Rattle.std.specs.Prelude.{◌≡◌, Bool, true, false, cond, List, ℕ, ◌<◌, ◌≤◌}
 use Rattle.std.proofs.Math.Path.{refl, sym}
 use Rattle.std.proofs.Common.{ap, ◌∙◌, le-ltb, lt-ltb}
-use Rattle.rfc6386.specs.Vector.{Lowering}
+use Rattle.rfc6386.specs.declared.Lowering.{Lowering}
 use Rattle.rfc6386.specs.Filter.{version_set, version_profile}
 use Rattle.rfc6386.specs.Macroblock.{Reference, whole, split}
 use Rattle.rfc6386.specs.Version.{reserved_version, in_mode, by_profile, by_version, whole_by_version, split_by_version}
 use Rattle.rfc6386.specs.declared.Mv.{Mv}
 use Rattle.rfc6386.specs.declared.FilterSet.{FilterSet}
 use Rattle.rfc6386.specs.declared.Profile.{Profile}
-use Rattle.rfc6386.specs.declared.Prediction.{Prediction}
+use Rattle.rfc6386.specs.Answer.{Prediction}
 
 -- the rule, by what it lowers
 pub in_mode_lem : (standard full : Bool) {l : Bool} → l ≡ (in_mode standard full).luma → record { luma = l; chroma = full } ≡ in_mode standard full

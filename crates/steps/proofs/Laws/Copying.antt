@@ -67,6 +67,9 @@ laying_all {d₀} {d} {to} {n} {c} {f} L h =
     (λ a b. let q : to + (i - to) ≡ i = omega arith in subst (λ (j : ℕ). get_or d j 0 ≡ f (i - to)) q (L.done (i - to) (omega arith)))
     (λ out. L.rest i (λ a b. out a (omega arith))))
 
+-- all three, for a function's loop
+pub ruleset laying = (laying_none, laying_more, laying_all)
+
 pub get_or-laid : (d : List ℕ) (to n : ℕ) (f : ℕ → ℕ) (i : ℕ) → i < length d → get_or (laid d to n f) i 0 ≡ cond (within to n i) (f (i - to)) (get_or d i 0)
 unfolding laid
 get_or-laid d to n f i h = get_or-tab _ _ i 0 h

@@ -128,11 +128,11 @@ put_whole n out block e h =
     written_all out n n _ e
     ∙ sym (raster_of n n _ block h (λ r c hr hc. ap (λ (k : ℕ). get_or block k 0) (omega arith)))
 
--- ---- one of two blocks that stand side by side, put in place
 pub length-beside : (n : ℕ) (l m : List ℕ) → length (beside n l m) ≡ n * (n + n)
 unfolding beside
 length-beside n l m = length-raster n (n + n) _
 
+-- ---- one of two blocks that stand side by side, put in place
 module _ (n : ℕ) (l m : List ℕ) {b : List ℕ} (h : b ≡ beside n l m) where
   look : (r c : ℕ) → r < n → c < n + n → (t : Bool) → ltb c n ≡ t → (i : ℕ) → i ≡ r * (n + n) + c
       → get_or b i 0 ≡ cond t (get_or l (r * n + c) 0) (get_or m (r * n + (c - n)) 0)

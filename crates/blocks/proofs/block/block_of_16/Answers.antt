@@ -1,65 +1,56 @@
 -- `block::block_of_16` copies whole pixels, or filters the halo, near or far. Assumes nothing.
 use Rattle.std.proofs.Common.{sym, ◌∙◌, arith}
-use Rattle.rfc6386.proofs.Laws.Refusals.{plane_accepts}
 use Rattle.rfc6386.proofs.Laws.Blocks.{image_bytes}
 use Rattle.rfc6386.proofs.Laws.Halos.{whole-block}
-use Rattle.blocks.proofs.Fetches.{under_x, under_y}
 use Rattle.blocks.proofs.Windows.{way_block, found_held, found_window, far_window, takes-pixels, takes-halo, few_fetched}
 use Rattle.blocks.proofs.block.block_of_16.Goals as goal
 
 pub returns-then-whole_pixel_fraction_is_zero-clause-value : goal.returns-then-whole_pixel_fraction_is_zero-clause-value
 returns-then-whole_pixel_fraction_is_zero-clause-value c =
     let whole = sym c.whole_pixel_fraction_is_zero.ensures ∙ c.if-whole_pixel_fraction_is_zero.true in
-    whole-block 16 _ _ _ _ _ c.pixels_of_16.ensures.value whole
+    whole-block 16 _ _ _ _ _ c.pixels_of.ensures.value whole
 
 pub returns-then-whole_pixel_fraction_is_zero-clause-all_after : goal.returns-then-whole_pixel_fraction_is_zero-clause-all_after
 returns-then-whole_pixel_fraction_is_zero-clause-all_after c =
     let whole = sym c.whole_pixel_fraction_is_zero.ensures ∙ c.if-whole_pixel_fraction_is_zero.true in
-    takes-pixels 16 _ _ _ _ _ whole c.pixels_of_16.ensures.fetched_after
+    takes-pixels 16 _ _ _ _ _ whole c.pixels_of.ensures.fetched_after
 
-pub find-found-requires-clause-x_bound : goal.find-found-requires-clause-x_bound
-find-found-requires-clause-x_bound c = let A = plane_accepts _ _ _ c.requires in (under_x A, under_y A)
-
-pub find-found-requires-clause-w_bound : goal.find-found-requires-clause-w_bound
-find-found-requires-clause-w_bound c = let A = plane_accepts _ _ _ c.requires in (A.width_most, A.height_most)
-
-pub overflow_mul-from : goal.overflow_mul-from
-overflow_mul-from c = omega (arith, found_held 16 c.args.plane.now c.requires (c.find-found.ensures.halo_at c.if-found.true) 0 (omega arith))
-
-pub overflow_add-from : goal.overflow_add-from
-overflow_add-from c = omega (arith, found_held 16 c.args.plane.now c.requires (c.find-found.ensures.halo_at c.if-found.true) 0 (omega arith))
-
-pub filter_wide-block-requires-clause-held : goal.filter_wide-block-requires-clause-held
-filter_wide-block-requires-clause-held c = found_held 16 c.args.plane.now c.requires (c.find-found.ensures.halo_at c.if-found.true)
+pub filter_wide-block-requires : goal.filter_wide-block-requires
+filter_wide-block-requires c = record { held = found_held 16 c.args.lent c.window.ensures c.in-Some.ensures.halo_at }
 
 pub took-requires : goal.took-requires
-took-requires c = omega (arith, few_fetched 21 _ _ _ _ (omega arith) (c.find-found.ensures.fetched_value c.if-found.true))
+took-requires c = omega (arith, few_fetched 21 _ _ _ _ (omega arith) c.in-Some.ensures.fetched_value)
 
-pub returns-then-found-clause-value : goal.returns-then-found-clause-value
-returns-then-found-clause-value c =
-    let window = found_window 16 c.args.plane.now c.requires (c.find-found.ensures.halo_at c.if-found.true) in
-    way_block 16 c.args.set _ c.args.at.x c.args.at.y c.args.mv
-    (image_bytes _ (λ i. omega (arith, c.type_inv.plane i))) c.way_of-way.ensures window c.filter_wide-block.ensures.value
+pub returns-in-Some-clause-value : goal.returns-in-Some-clause-value
+returns-in-Some-clause-value c =
+    let window = found_window 16 c.args.lent c.window.ensures c.in-Some.ensures.halo_at in
+    way_block 16 c.args.set _ c.args.lent.at.x c.args.lent.at.y c.args.mv
+    (image_bytes _ c.args.lent.bytes) c.way_of-way.ensures window c.filter_wide-block.ensures.value
 
-pub returns-then-found-clause-all_after : goal.returns-then-found-clause-all_after
-returns-then-found-clause-all_after c =
-    let window = found_window 16 c.args.plane.now c.requires (c.find-found.ensures.halo_at c.if-found.true) in
+pub returns-in-Some-clause-all_after : goal.returns-in-Some-clause-all_after
+returns-in-Some-clause-all_after c =
+    let window = found_window 16 c.args.lent c.window.ensures c.in-Some.ensures.halo_at in
     let fraction = sym c.whole_pixel_fraction_is_zero.ensures ∙ c.if-whole_pixel_fraction_is_zero.false in
     c.took.ensures
-    ∙ takes-halo 16 c.args.set _ c.args.at.x c.args.at.y c.args.mv fraction c.way_of-way.ensures window (c.find-found.ensures.fetched_value c.if-found.true) c.filter_wide-block.ensures.tally_after
+    ∙ takes-halo 16 c.args.set _ c.args.lent.at.x c.args.lent.at.y c.args.mv fraction c.way_of-way.ensures window c.in-Some.ensures.fetched_value c.filter_wide-block.ensures.tally_after
 
 pub took-requires-2 : goal.took-requires-2
-took-requires-2 c = omega (arith, few_fetched 21 _ _ _ _ (omega arith) c.halo_of_16-halo.ensures.fetched_after)
+took-requires-2 c = omega (arith, few_fetched 21 _ _ _ _ (omega arith) c.halo_of-halo.ensures.fetched_after)
 
 pub returns-clause-value : goal.returns-clause-value
 returns-clause-value c =
-    let window = far_window 16 _ c.args.at.x c.args.at.y c.args.mv c.halo_of_16-halo.ensures.value in
-    way_block 16 c.args.set _ c.args.at.x c.args.at.y c.args.mv
-    (image_bytes _ (λ i. omega (arith, c.type_inv.plane i))) c.way_of-way.ensures window c.filter_wide-block-2.ensures.value
+    let window = far_window 16 _ c.args.lent.at.x c.args.lent.at.y c.args.mv c.halo_of-halo.ensures.value in
+    way_block 16 c.args.set _ c.args.lent.at.x c.args.lent.at.y c.args.mv
+    (image_bytes _ c.args.lent.bytes) c.way_of-way.ensures window c.filter_wide-block-2.ensures.value
 
 pub returns-clause-all_after : goal.returns-clause-all_after
 returns-clause-all_after c =
-    let window = far_window 16 _ c.args.at.x c.args.at.y c.args.mv c.halo_of_16-halo.ensures.value in
+    let window = far_window 16 _ c.args.lent.at.x c.args.lent.at.y c.args.mv c.halo_of-halo.ensures.value in
     let fraction = sym c.whole_pixel_fraction_is_zero.ensures ∙ c.if-whole_pixel_fraction_is_zero.false in
     c.took-2.ensures
-    ∙ takes-halo 16 c.args.set _ c.args.at.x c.args.at.y c.args.mv fraction c.way_of-way.ensures window c.halo_of_16-halo.ensures.fetched_after c.filter_wide-block-2.ensures.tally_after
+    ∙ takes-halo 16 c.args.set _ c.args.lent.at.x c.args.lent.at.y c.args.mv fraction c.way_of-way.ensures window c.halo_of-halo.ensures.fetched_after c.filter_wide-block-2.ensures.tally_after
+
+pub window-requires : goal.window-requires
+window-requires c =
+    let H = c.in-Some.ensures.halo_at in
+    record { inside = (omega (arith, H.across.room), omega (arith, H.down.room)) }

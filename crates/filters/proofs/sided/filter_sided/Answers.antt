@@ -3,4 +3,4 @@ use Rattle.steps.proofs.Laws.Tallies.{whole_tally}
 use Rattle.filters.proofs.sided.filter_sided.Goals as goal
 
 pub returns-then-way-eq0-2-clause-value : goal.returns-then-way-eq0-2-clause-value
-returns-then-way-eq0-2-clause-value c = whole_tally c.args.n c.args.way.set _ c.if-way-eq0.true c.if-way-eq0-2.true
+returns-then-way-eq0-2-clause-value g c = whole_tally g.row.SIDE c.args.way.set _ c.if-way-eq0.true c.if-way-eq0-2.true

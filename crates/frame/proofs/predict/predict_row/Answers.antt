@@ -1,8 +1,8 @@
 -- `predict::predict_row` meets its contract: the first macroblocks of the row are written, one more a turn. Assumes nothing.
-use Rattle.std.proofs.Common.{ℕ, ◌<◌, refl, arith}
+use Rattle.std.proofs.Common.{ℕ, ◌<◌, refl}
 use Rattle.frame.specs.Frame.{Asked, cols, rows}
 use Rattle.frame.specs.Inner.{Ready}
-use Rattle.frame.proofs.Filling.{row_begun, Turn, small, y_place, u_place, v_place, chosen, order_accepted, order_full, row_on}
+use Rattle.frame.proofs.Filling.{row_begun, Turn, order_lies, order_good, small, y_place, u_place, v_place, order_accepted, order_full, row_on}
 use Rattle.frame.specs.declared.Strides.{Strides}
 use Rattle.frame.proofs.predict.predict_row.Goals as goal
 
@@ -11,12 +11,16 @@ turn : {a : Asked} {s : Strides} {y u v col row : ℕ} → Ready a s y u v → c
 turn r h k = record { ready = r; col_in = h; row_in = k }
 
 pub loop-col-init : goal.loop-col-init
-loop-col-init c = (omega arith, refl, row_begun _ _ _ c.args.row)
+loop-col-init c = (refl, row_begun _ _ _ c.args.row)
+
+pub order_into-requires-clause-order_lies : goal.order_into-requires-clause-order_lies
+order_into-requires-clause-order_lies c = order_lies (turn c.requires.ready c.loop-col-test.true c.requires.row_bound)
+
+pub order_into-requires-clause-good : goal.order_into-requires-clause-good
+order_into-requires-clause-good c = order_good (turn c.requires.ready c.loop-col-test.true c.requires.row_bound) c.requires.good
 
 pub order_into-requires-clause-row_value : goal.order_into-requires-clause-row_value
-order_into-requires-clause-row_value c =
-    let T = turn c.requires.ready c.loop-col-test.true c.requires.row_bound in
-    order_accepted T (chosen T c.named-y.ensures c.named-u.ensures c.named-v.ensures)
+order_into-requires-clause-row_value c = order_accepted (turn c.requires.ready c.loop-col-test.true c.requires.row_bound)
 
 pub put_macroblock-requires-clause-col_bound : goal.put_macroblock-requires-clause-col_bound
 put_macroblock-requires-clause-col_bound c = small (turn c.requires.ready c.loop-col-test.true c.requires.row_bound)
@@ -33,7 +37,6 @@ put_macroblock-requires-clause-room_3 c = v_place (turn c.requires.ready c.loop-
 pub loop-col-preserved : goal.loop-col-preserved
 loop-col-preserved c =
     let T = turn c.requires.ready c.loop-col-test.true c.requires.row_bound in
-    let own = chosen T c.named-y.ensures c.named-u.ensures c.named-v.ensures in
     let left = c.order_into.ensures in
     let put = c.put_macroblock.ensures in
-    (omega arith, order_full T own left, row_on T own left c.loop-col.invariant.2 put.out_y_after put.out_u_after put.out_v_after)
+    (order_full T left, row_on T left c.loop-col.invariant.1 put.out_y_after put.out_u_after put.out_v_after)

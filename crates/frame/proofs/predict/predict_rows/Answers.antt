@@ -1,10 +1,9 @@
 -- `predict::predict_rows` meets its contract: the first rows are written, one more a turn. Assumes nothing.
-use Rattle.std.proofs.Common.{arith}
 use Rattle.frame.proofs.Filling.{rows_begun, rows_on}
 use Rattle.frame.proofs.predict.predict_rows.Goals as goal
 
 pub loop-row-init : goal.loop-row-init
-loop-row-init c = (omega arith, rows_begun _ _ _)
+loop-row-init c = rows_begun _ _ _
 
 pub loop-row-preserved : goal.loop-row-preserved
-loop-row-preserved c = (omega arith, rows_on _ _ _ c.loop-row.row c.loop-row.invariant.1 c.predict_row.ensures)
+loop-row-preserved c = rows_on _ _ _ c.loop-row.row c.loop-row.invariant c.predict_row.ensures

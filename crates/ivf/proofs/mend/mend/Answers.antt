@@ -1,26 +1,20 @@
 -- What `ivf::mend::mend` leaves: the two refusals in their order, and the mended file.
-use Rattle.std.proofs.Common.{true, false, refl, sym, ap, ◌∙◌, subst, arith, length, ltb-false}
-use Rattle.ivf.specs.Mending.{kept, no_room, Mends}
+use Rattle.std.proofs.Common.{true, false, refl, sym, ap, ◌∙◌, arith, length, ltb-false}
+use Rattle.ivf.specs.Mending.{kept, no_room}
 use Rattle.ivf.proofs.Definitions.{kept_lies, sized, mends}
-use Rattle.ivf.specs.declared.Mended.{Mended}
 use Rattle.ivf.specs.declared.frames.Frames.{Frames}
 use Rattle.ivf.proofs.Laws.{writes_done}
 use Rattle.ivf.proofs.mend.mend.Goals as goal
 
 pub returns-then-not_ivf : goal.returns-then-not_ivf
-returns-then-not_ivf c =
-    let a = c.args in
-    subst (λ (r : Mended). Mends a.file.now a.out.now r a.out.now) (sym c.refuse.ensures)
-    (mends a.file.now a.out.now true _ (sym c.not_ivf.ensures ∙ c.if-not_ivf.true) refl)
+returns-then-not_ivf c = mends c.args.file.now c.args.out.now true _ (sym c.not_ivf.ensures ∙ c.if-not_ivf.true) refl
 
 pub no_room-requires : goal.no_room-requires
 no_room-requires c = sized _ (sym c.not_ivf.ensures ∙ c.if-not_ivf.false)
 
 pub returns-then-no_room : goal.returns-then-no_room
 returns-then-no_room c =
-    let a = c.args in
-    subst (λ (r : Mended). Mends a.file.now a.out.now r a.out.now) (sym c.refuse-then-no_room.ensures)
-    (mends a.file.now a.out.now false true (sym c.not_ivf.ensures ∙ c.if-not_ivf.false) (sym c.no_room.ensures ∙ c.if-no_room.true))
+    mends c.args.file.now c.args.out.now false true (sym c.not_ivf.ensures ∙ c.if-not_ivf.false) (sym c.no_room.ensures ∙ c.if-no_room.true)
 
 pub write_mended-frames-requires-clause-sized : goal.write_mended-frames-requires-clause-sized
 write_mended-frames-requires-clause-sized c = sized _ (sym c.not_ivf.ensures ∙ c.if-not_ivf.false)
@@ -28,7 +22,7 @@ write_mended-frames-requires-clause-sized c = sized _ (sym c.not_ivf.ensures ∙
 pub write_mended-frames-requires-clause-file_in_bounds : goal.write_mended-frames-requires-clause-file_in_bounds
 unfolding no_room
 write_mended-frames-requires-clause-file_in_bounds c =
-    let a = c.args in ltb-false (length a.out.now) (kept a.file.now) (sym c.no_room.ensures ∙ c.if-no_room.false)
+    ltb-false (length c.args.out.now) (kept c.args.file.now) (sym c.no_room.ensures ∙ c.if-no_room.false)
 
 pub read4-requires : goal.read4-requires
 read4-requires c = omega (arith, sized _ (sym c.not_ivf.ensures ∙ c.if-not_ivf.false))
@@ -42,4 +36,5 @@ overflow_sub-result c =
 pub returns : goal.returns
 returns c =
     let w = c.write_mended-frames in
-    writes_done _ _ _ c.read4.result w.result (sym c.not_ivf.ensures ∙ c.if-not_ivf.false) (sym c.no_room.ensures ∙ c.if-no_room.false) w.ensures c.read4.ensures.is
+    writes_done _ _ _ c.from.result w.result (sym c.not_ivf.ensures ∙ c.if-not_ivf.false) (sym c.no_room.ensures ∙ c.if-no_room.false) w.ensures
+    (c.from.ensures ∙ c.read4.ensures)

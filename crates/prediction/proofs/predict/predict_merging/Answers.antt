@@ -1,13 +1,14 @@
 -- `predict_merging` meets its contract: whole prediction where the sixteen vectors are one, else split prediction. Assumes nothing.
 use Rattle.std.proofs.Common.{◌≡◌, sym, ◌∙◌, subst, List, ℕ, rules}
 use lib.Dec.{T}
-use Rattle.rfc6386.specs.Vector.{Lowering, lowering_of, sent, One}
+use Rattle.rfc6386.specs.Vector.{lowering_of, sent, One}
+use Rattle.rfc6386.specs.declared.Lowering.{Lowering}
 use Rattle.rfc6386.specs.Macroblock.{Reference, lent}
 use Rattle.rfc6386.specs.Report.{whole_report, split_report, merging_report}
 use Rattle.rfc6386.proofs.Counts.{merging-whole, merging-split}
 use Rattle.rfc6386.specs.declared.Mv.{Mv}
 use Rattle.rfc6386.specs.declared.FilterSet.{FilterSet}
-use Rattle.rfc6386.specs.declared.Report.{Report}
+use Rattle.rfc6386.specs.Answer.{Report}
 use Rattle.prediction.proofs.predict.predict_merging.Goals as goal
 
 module _ (set : FilterSet) (low : Lowering) (ref : Reference) (col row : ℕ) (vs : List Mv) {r : Report} where

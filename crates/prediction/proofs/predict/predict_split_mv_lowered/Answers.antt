@@ -1,104 +1,65 @@
--- `predict_split_mv_lowered` is split prediction: zeros by the number where it refuses, else chroma and sixteen luma blocks.
-use Rattle.std.proofs.Common.{◌≡◌, sym, ap, ◌∙◌, Bool, List, ℕ, ◌+◌, ◌-◌, ◌*◌, ◌/◌, ◌%◌, ◌≤◌, length, arith}
-use Rattle.rfc6386.specs.Vector.{Lowering, luma_vector, sent}
+-- `predict_split_mv_lowered` is split prediction: refused by the number, else chroma and sixteen luma blocks. Assumes nothing.
+use Rattle.std.proofs.Common.{◌≡◌, ◌∙◌, List, ℕ, ◌*◌, ◌≤◌, ◌++◌, length, arith}
+use Rattle.rfc6386.specs.Vector.{luma_vector, sent}
+use Rattle.rfc6386.specs.declared.Lowering.{Lowering}
 use Rattle.rfc6386.specs.Fetched.{Coordinate, tiles_of}
-use Rattle.rfc6386.specs.Clips.{no_clips}
-use Rattle.rfc6386.specs.Report.{split_of, split_clips, split_report}
+use Rattle.rfc6386.specs.Report.{reported, split_chroma_of, split_of, split_clips, split_report}
 use Rattle.rfc6386.proofs.Counts.{split_range}
-use Rattle.rfc6386.proofs.Clipping.{split_le}
-use Rattle.rfc6386.specs.Macroblock.{Reference, lent, plane_y, refusal, no_samples, split}
-use Rattle.rfc6386.proofs.Laws.Fetched.{report-refused}
+use Rattle.rfc6386.specs.Macroblock.{Reference, lent, plane_y, split}
+use Rattle.rfc6386.specs.Answer.{Report}
 use Rattle.rfc6386.specs.declared.Mv.{Mv}
 use Rattle.rfc6386.specs.declared.FilterSet.{FilterSet}
-use Rattle.rfc6386.specs.declared.Clips.{Clips}
-use Rattle.rfc6386.specs.declared.Sizes.{Sizes}
-use Rattle.rfc6386.specs.declared.Prediction.{Prediction}
-use Rattle.rfc6386.specs.declared.Report.{Report}
-use Rattle.blocks.specs.Places.{plane_at}
+use Rattle.blocks.specs.Lents.{plane_in}
 use Rattle.blocks.specs.Taken.{taken}
-use Rattle.blocks.specs.declared.place.Place.{Place}
 use Rattle.prediction.specs.Tiles.{tiles_take}
-use Rattle.prediction.specs.Luma.{luma_block_at, ButLuma}
-use Rattle.prediction.specs.Reports.{apart_fits, apart-reported}
+use Rattle.prediction.specs.Luma.{luma_clips, ButLuma}
 use Rattle.prediction.specs.declared.predict.Rest.{Rest}
-use Rattle.prediction.proofs.Tiles.{tiles_few}
+use Rattle.prediction.proofs.Macroblock.{standing}
+use Rattle.prediction.proofs.Reports.{split_fits, split_apart, split_reported}
 use Rattle.prediction.proofs.predict.predict_split_mv_lowered.Goals as goal
 
--- what it is a prediction of, and what that takes
-module _ (y u v : List ℕ) (sizes : Sizes) (col row : ℕ) (vs : List Mv) (luma chroma : Bool) (set : FilterSet) where
-  abbrev ref : Reference
-  ref = lent y u v sizes
-
-  abbrev low : Lowering
-  low = record { luma = luma; chroma = chroma }
-
+module _ (set : FilterSet) (low : Lowering) (ref : Reference) (col row : ℕ) (vs : List Mv) where
+  -- what its luma fetches
   abbrev luma_list : List Coordinate
   luma_list = tiles_of 4 (plane_y ref) (col * 16) (row * 16) (λ b. luma_vector low (sent vs b))
 
-  abbrev split_list : List Coordinate
-  split_list = split_of low ref col row vs
-
-  abbrev clipped : Clips
-  clipped = split_clips set low ref col row vs
-
-  few : length split_list ≤ 1944
+  few : length (luma_list ++ split_chroma_of low ref col row vs) ≤ 1944
+  unfolding split_of
   few = (split_range low ref col row vs).1
 
-  most : clipped.low + clipped.high ≤ 384
-  most = split_le set low ref col row vs
+  took : {rest : Rest} {all count : ℕ} → ButLuma set low.chroma ref col row vs rest all
+      → count ≡ tiles_take 4 set (plane_in rest.luma.lent) rest.luma.lent.at.x rest.luma.lent.at.y (λ b. luma_vector low (sent vs b)) → count ≡ taken (length luma_list) (luma_clips set low ref col row vs)
+  took R e = e ∙ standing R.stands (λ p x y. tiles_take 4 set p x y (λ b. luma_vector low (sent vs b)))
 
-  refused-is : {n : ℕ} {r : Report} → r ≡ record { prediction = record { number = n; samples = no_samples }; fetched = 0; clips = no_clips }
-      → n ≡ refusal ref col row → (n ≡ 0 → ⊥) → r ≡ split_report set low ref col row vs
-  unfolding split_report split
-  refused-is e number some = e ∙ report-refused _ split_list clipped number some
-
-  -- what is left of a macroblock that is not refused, and its luma samples and what they took
-  module _ {rest : Rest} {all count : ℕ} (R : ButLuma set chroma ref col row vs rest all)
-      (took : count ≡ tiles_take 4 set (plane_at y rest.luma_at) rest.luma_at.x rest.luma_at.y (λ b. luma_vector low (sent vs b))) where
-    all_is : count + all ≡ taken (length split_list) clipped
-    unfolding split_of
-    all_is =
-        R.sums luma luma_list
-        (took ∙ ap (λ (p : Place). tiles_take 4 set (plane_at y p) p.x p.y (λ b. luma_vector low (sent vs b))) R.stands)
-
-    sum_fits : count + all ≤ 24000000000000000
-    sum_fits = omega (arith, tiles_few 4 set (plane_at y rest.luma_at) rest.luma_at.x rest.luma_at.y (λ b. luma_vector low (sent vs b)) took, R.few)
-
-    fit : (count + all) / 4294967296 / 512 ≤ (count + all) / 4294967296 % 512
-    fit = apart_fits split_list clipped all_is few most
-
-    report_is : {n fetched : ℕ} {samples : List ℕ} {clips : Clips} → n ≡ 0 → samples ≡ luma_block_at set low y vs rest.luma_at
-        → fetched ≡ (count + all) % 4294967296
-        → clips ≡ record { low = (count + all) / 4294967296 / 512; high = (count + all) / 4294967296 % 512 - (count + all) / 4294967296 / 512 }
-        → ◌≡◌ {A = Report}
-        (record {
-          prediction = record { number = n; samples = record { y = samples; u = rest.chroma.u; v = rest.chroma.v } };
-          fetched = fetched;
-          clips = clips;
-        })
-        (split_report set low ref col row vs)
-    unfolding split_report
-    report_is zero luma_is fetched_is clips_are =
-        let same = R.completes luma zero luma_is in
-        apart-reported split_list clipped all_is few most same (sym (ap (λ (p : Prediction). p.number) same) ∙ zero) fetched_is clips_are
-
-pub returns-then-number-ne0 : goal.returns-then-number-ne0
-returns-then-number-ne0 c =
-    let a = c.args in
-    refused-is a.y.now a.u.now a.v.now a.sizes a.mb_col a.mb_row a.split_luma_mvs a.lower_luma a.lower_chroma a.set c.refused_report.ensures c.refusal-number.ensures c.if-number-ne0.true
+  is-report : {r : Report} → r ≡ reported (split set low ref col row vs) (luma_list ++ split_chroma_of low ref col row vs) (split_clips set low ref col row vs) → r ≡ split_report set low ref col row vs
+  unfolding split_report split_of
+  is-report e = e
 
 pub overflow_add-all : goal.overflow_add-all
 overflow_add-all c =
     let a = c.args in
-    omega (arith, sum_fits a.y.now a.u.now a.v.now a.sizes a.mb_col a.mb_row a.split_luma_mvs a.lower_luma a.lower_chroma a.set c.split_but_luma-rest.ensures c.split_luma-y_samples.ensures.all_after)
+    let ref = lent a.y.now a.u.now a.v.now a.sizes in
+    let R = c.split_but_luma-rest.ensures in
+    omega (
+      arith,
+      split_fits a.set a.lowering ref a.mb_col a.mb_row a.split_luma_mvs _ (few a.set a.lowering ref a.mb_col a.mb_row a.split_luma_mvs) R
+          (took a.set a.lowering ref a.mb_col a.mb_row a.split_luma_mvs R c.split_luma-y_samples.ensures.all_after),
+    )
 
 pub clips-requires : goal.clips-requires
 clips-requires c =
     let a = c.args in
-    fit a.y.now a.u.now a.v.now a.sizes a.mb_col a.mb_row a.split_luma_mvs a.lower_luma a.lower_chroma a.set c.split_but_luma-rest.ensures c.split_luma-y_samples.ensures.all_after
+    let ref = lent a.y.now a.u.now a.v.now a.sizes in
+    let R = c.split_but_luma-rest.ensures in
+    split_apart a.set a.lowering ref a.mb_col a.mb_row a.split_luma_mvs _ (few a.set a.lowering ref a.mb_col a.mb_row a.split_luma_mvs) R
+    (took a.set a.lowering ref a.mb_col a.mb_row a.split_luma_mvs R c.split_luma-y_samples.ensures.all_after)
 
 pub returns : goal.returns
 returns c =
     let a = c.args in
-    report_is a.y.now a.u.now a.v.now a.sizes a.mb_col a.mb_row a.split_luma_mvs a.lower_luma a.lower_chroma a.set c.split_but_luma-rest.ensures c.split_luma-y_samples.ensures.all_after
-    c.if-number-ne0.false c.split_luma-y_samples.ensures.value c.fetched.ensures c.clips.ensures
+    let ref = lent a.y.now a.u.now a.v.now a.sizes in
+    let R = c.split_but_luma-rest.ensures in
+    is-report a.set a.lowering ref a.mb_col a.mb_row a.split_luma_mvs
+    (split_reported a.set a.lowering ref a.mb_col a.mb_row a.split_luma_mvs _ (few a.set a.lowering ref a.mb_col a.mb_row a.split_luma_mvs) R
+    (took a.set a.lowering ref a.mb_col a.mb_row a.split_luma_mvs R c.split_luma-y_samples.ensures.all_after)
+    c.split_luma-y_samples.ensures.value c.fetched.ensures c.clips.ensures)

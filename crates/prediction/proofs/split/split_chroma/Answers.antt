@@ -1,12 +1,14 @@
 -- `split::split_chroma` puts the first b blocks of both planes in their places. Assumes nothing.
-use Rattle.std.proofs.Common.{◌≡◌, refl, sym, ap, ap₂, ◌∙◌, List, ℕ, ◌+◌, ◌*◌, ◌/◌, ◌%◌, arith}
+use Rattle.std.proofs.Common.{◌≡◌, refl, sym, ap₂, ◌∙◌, ℕ, ◌+◌, ◌*◌, ◌/◌, ◌%◌, arith}
 use Rattle.rfc6386.specs.Vector.{sent}
 use Rattle.rfc6386.specs.Picture.{image, block}
 use Rattle.rfc6386.specs.declared.Mv.{Mv}
 use Rattle.rfc6386.specs.declared.FilterSet.{FilterSet}
-use Rattle.blocks.specs.Places.{plane_at}
+use Rattle.blocks.specs.Lents.{plane_in}
 use Rattle.blocks.specs.Taken.{block_takes}
+use Rattle.blocks.specs.declared.lent.Lent.{Lent}
 use Rattle.blocks.specs.declared.place.Place.{Place}
+use Rattle.prediction.proofs.Macroblock.{shifted}
 use Rattle.prediction.proofs.Tiles.{two, tiled-none, tiled-more, tiled_all, tile_takes, taken_none, taken_more, tile_few, taken_few, taken-all}
 use Rattle.prediction.proofs.split.split_chroma.Goals as goal
 
@@ -14,12 +16,12 @@ use Rattle.prediction.proofs.split.split_chroma.Goals as goal
 abbrev place : Place → ℕ → Place
 place at b = record { stride = at.stride; w = at.w; h = at.h; x = at.x + b % 2 * 4; y = at.y + b / 2 * 4 }
 
--- what the blocks at p and q took, which are block b's places
-took : (set : FilterSet) (u v : List ℕ) (at at' : Place) (m : ℕ → Mv) (b : ℕ) {k : ℕ} {p q : Place}
-    → k ≡ block_takes 4 set (plane_at u p) p.x p.y (m b) + block_takes 4 set (plane_at v q) q.x q.y (m b)
-    → p ≡ place at b → q ≡ place at' b → k ≡ tile_takes 2 set (plane_at u at) at.x at.y m b + tile_takes 2 set (plane_at v at') at'.x at'.y m b
-took set u v at at' m b e f g =
-    e ∙ ap₂ (λ (p q : Place). block_takes 4 set (plane_at u p) p.x p.y (m b) + block_takes 4 set (plane_at v q) q.x q.y (m b)) f g
+-- what block b took in both planes
+took : (set : FilterSet) (u v p q : Lent) (m : ℕ → Mv) (b : ℕ) {k : ℕ}
+    → k ≡ block_takes 4 set (plane_in p) p.at.x p.at.y (m b) + block_takes 4 set (plane_in q) q.at.x q.at.y (m b)
+    → p.plane.now ≡ u.plane.now → p.at ≡ place u.at b → q.plane.now ≡ v.plane.now → q.at ≡ place v.at b
+    → k ≡ tile_takes 2 set (plane_in u) u.at.x u.at.y m b + tile_takes 2 set (plane_in v) v.at.x v.at.y m b
+took set u v p q m b e up ua vp va = e ∙ ap₂ ◌+◌ (shifted (block_takes 4 set) u p _ _ up ua refl) (shifted (block_takes 4 set) v q _ _ vp va refl)
 
 more : (k n a b p q a' b' : ℕ) → k ≡ a + b → n ≡ p + q → a + p ≡ a' → b + q ≡ b' → k + n ≡ a' + b'
 more k n a b p q a' b' e h l r = omega arith
@@ -36,15 +38,17 @@ pub overflow_add-total : goal.overflow_add-total
 overflow_add-total c =
     let a = c.args in
     let b = c.loop-b.b in
-    let p = plane_at a.u.now a.u_at in
-    let q = plane_at a.v.now a.v_at in
+    let u = a.chroma.u.lent in
+    let v = a.chroma.v.lent in
+    let p = c.block-u.ensures in
+    let q = c.block-v.ensures in
     omega (
       arith,
-      taken_few 2 a.set p a.u_at.x a.u_at.y (sent a.mvs) b,
-      taken_few 2 a.set q a.v_at.x a.v_at.y (sent a.mvs) b,
-      took a.set a.u.now a.v.now a.u_at a.v_at (sent a.mvs) b c.pair_into-total.ensures.value c.from.ensures c.from-in-loop-b.ensures,
-      tile_few 2 a.set p a.u_at.x a.u_at.y (sent a.mvs) b,
-      tile_few 2 a.set q a.v_at.x a.v_at.y (sent a.mvs) b,
+      taken_few 2 a.set (plane_in u) u.at.x u.at.y (sent a.mvs) b,
+      taken_few 2 a.set (plane_in v) v.at.x v.at.y (sent a.mvs) b,
+      took a.set u v c.block-u.result c.block-v.result (sent a.mvs) b c.pair_into-total.ensures.value p.plane p.place q.plane q.place,
+      tile_few 2 a.set (plane_in u) u.at.x u.at.y (sent a.mvs) b,
+      tile_few 2 a.set (plane_in v) v.at.x v.at.y (sent a.mvs) b,
     )
 
 pub loop-b-preserved : goal.loop-b-preserved
@@ -53,14 +57,16 @@ loop-b-preserved c =
     let b = c.loop-b.b in
     let h = c.loop-b-test.true in
     let e = c.pair_into-total.ensures in
+    let u = a.chroma.u.lent in
+    let v = a.chroma.v.lent in
+    let p = c.block-u.ensures in
+    let q = c.block-v.ensures in
     record {
-      u_tiled = tiled-more 2 two _ _ _ _ _ c.loop-b.invariant.u_tiled h
-          (ap (λ (p : Place). block 4 a.set (image (plane_at a.u.now p)) p.x p.y (sent a.mvs b)) c.from.ensures) e.u_out_after;
-      v_tiled = tiled-more 2 two _ _ _ _ _ c.loop-b.invariant.v_tiled h
-          (ap (λ (p : Place). block 4 a.set (image (plane_at a.v.now p)) p.x p.y (sent a.mvs b)) c.from-in-loop-b.ensures) e.v_out_after;
-      counted = more _ _ _ _ _ _ _ _ c.loop-b.invariant.counted (took a.set a.u.now a.v.now a.u_at a.v_at (sent a.mvs) b e.value c.from.ensures c.from-in-loop-b.ensures)
-          (taken_more 2 a.set (plane_at a.u.now a.u_at) a.u_at.x a.u_at.y (sent a.mvs) b refl refl)
-          (taken_more 2 a.set (plane_at a.v.now a.v_at) a.v_at.x a.v_at.y (sent a.mvs) b refl refl);
+      u_tiled = tiled-more 2 two _ _ _ _ _ c.loop-b.invariant.u_tiled h (shifted (λ p x y m. block 4 a.set (image p) x y m) u c.block-u.result _ _ p.plane p.place refl) e.u_out_after;
+      v_tiled = tiled-more 2 two _ _ _ _ _ c.loop-b.invariant.v_tiled h (shifted (λ p x y m. block 4 a.set (image p) x y m) v c.block-v.result _ _ q.plane q.place refl) e.v_out_after;
+      counted = more _ _ _ _ _ _ _ _ c.loop-b.invariant.counted (took a.set u v c.block-u.result c.block-v.result (sent a.mvs) b e.value p.plane p.place q.plane q.place)
+          (taken_more 2 a.set (plane_in u) u.at.x u.at.y (sent a.mvs) b refl refl)
+          (taken_more 2 a.set (plane_in v) v.at.x v.at.y (sent a.mvs) b refl refl);
     }
 
 pub returns-clause-value : goal.returns-clause-value
@@ -72,6 +78,8 @@ returns-clause-value c =
 pub returns-clause-all_after : goal.returns-clause-all_after
 returns-clause-all_after c =
     let a = c.args in
+    let u = a.chroma.u.lent in
+    let v = a.chroma.v.lent in
     let four : c.loop-b.b ≡ 2 * 2 = omega (arith, c.loop-b.invariant.u_tiled.most, c.loop-b-test.false) in
     c.loop-b.invariant.counted
-    ∙ ap₂ ◌+◌ (taken-all 2 a.set (plane_at a.u.now a.u_at) a.u_at.x a.u_at.y (sent a.mvs) refl four) (taken-all 2 a.set (plane_at a.v.now a.v_at) a.v_at.x a.v_at.y (sent a.mvs) refl four)
+    ∙ ap₂ ◌+◌ (taken-all 2 a.set (plane_in u) u.at.x u.at.y (sent a.mvs) refl four) (taken-all 2 a.set (plane_in v) v.at.x v.at.y (sent a.mvs) refl four)

@@ -8,7 +8,7 @@ use Rattle.quantisers.specs.Levels.{split_factor, products, split_products}
 use Rattle.quantisers.specs.Inner.{SplitOffered}
 use Rattle.quantisers.proofs.Ranges.{length-products}
 use Rattle.quantisers.proofs.Keeping.{split_offered, offered_none, offered-skipped}
-use Rattle.quantisers.proofs.Writing.{reached_none, reached_more, reached_all, split_y, split_uv}
+use Rattle.quantisers.proofs.Writing.{reached_none, reached_more, reached_all}
 use Rattle.quantisers.specs.declared.Factors.{Factors}
 use Rattle.quantisers.proofs.coefficients.split_coefficients.Goals as goal
 
@@ -34,10 +34,9 @@ pub returns : goal.returns
 returns c =
     let f = c.factors_of-f.result in
     let l = c.args.levels.now in
-    let d = c.scale_blocks-2.new.out in
-    let y = reached_more (split_factor f) l 0 256 f.y_dc f.y_ac (λ k h. ap (split_factor f) (zero-add k) ∙ split_y f k h) (reached_none (split_factor f) l c.args.out.now) c.scale_blocks.ensures in
-    let all = reached_more (split_factor f) l 256 128 f.uv_dc f.uv_ac (λ k h. split_uv f k) y c.scale_blocks-2.ensures in
-    let n : length d ≡ 384 = omega (arith, c.requires, c.scale_blocks.ensures.size, c.scale_blocks-2.ensures.size) in
+    let d = c.scale_planes.new.out in
+    let all = reached_more (split_factor f) l 0 384 (split_factor f) (λ k h. ap (split_factor f) (zero-add k)) (reached_none (split_factor f) l c.args.out.now) c.scale_planes.ensures in
+    let n : length d ≡ 384 = omega (arith, c.requires, c.scale_planes.ensures.size) in
     let k = reached_all (split_factor f) l (omega arith) n all in (
       omega (arith, n),
       subst (λ (x : Factors × List ℤ). SplitOffered c.args.skip (products (split_factor x.0) l) x.1)

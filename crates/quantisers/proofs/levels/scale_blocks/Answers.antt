@@ -9,4 +9,4 @@ use Rattle.quantisers.proofs.levels.scale_blocks.Goals as goal
 pub returns : goal.returns
 returns c =
     let a = c.args in
-    blocks_written (λ k factor. sixteen (dequantised (at a.levels.now (a.i + k)) factor)) a.dc a.ac c.scale.ensures c.scale_firsts.ensures
+    blocks_written (λ k factor. sixteen (dequantised (at a.levels.now (a.i + k)) factor)) a.dc a.ac c.scale.ensures c.scale-2.ensures

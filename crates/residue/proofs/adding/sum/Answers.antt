@@ -1,11 +1,10 @@
--- The sum in sixteen bits, once 0 bounds it, and then 255.
-use Rattle.std.proofs.Common.{◌≡◌, ap, ◌∙◌, ℕ, ◌^◌, ◌<◌, ◌≤◌, min, arith, ℤ, pos, negsuc, nat_abs, ◌+ℤ◌, w16, to_z, of_z}
-use Rattle.std.specs.Int.Signed.{mag}
-use mir.Val.{SFits}
-use Rattle.signed.specs.Int.{int, up}
-use Rattle.signed.specs.Held.{Held, Within, par_in, size-within, nat_at, put, got, fits_in, add, nat}
+-- The sum in sixteen bits, clamped.
+use Rattle.std.proofs.Common.{◌≡◌, ap, ◌∙◌, min, arith, ℤ, pos, negsuc, nat_abs, ◌+ℤ◌, w16}
+use Rattle.std.specs.Int.{int_min, int_max}
+use Rattle.signed.specs.Int.{up, int}
+use Rattle.signed.specs.Held.{Held, par_in, size-within, nat_at, got, add}
 use Rattle.rfc6386.specs.Filter.{clamp255}
-use Rattle.residue.specs.Transform.{summed}
+use Rattle.residue.proofs.Ranges.{clamped_from_0}
 use Rattle.residue.proofs.adding.sum.Goals as goal
 
 clamped : (z : ℤ) → min 255 (up z) ≡ clamp255 z
@@ -13,20 +12,9 @@ unfolding clamp255
 clamped (pos a) = omega int
 clamped (negsuc a) = omega int
 
-module _ {p : ℕ} {x : ℤ} (byte : p ≤ 255) (f : SFits w16 x) (h : nat_abs x ≤ 32512) where
-  abbrev z : ℤ
-  z = pos p +ℤ x
-
-  abbrev total : Held w16 z 32767 32512
-  total = add (nat_at p 255 byte tt) (par_in f (size-within h)) tt
-
-  -- r is what 0 bounds, s what 255 does
-  bounded : {r s : ℤ} → mag r < 2 ^ 15 → r ≡ pos (up total.val) → s ≡ pos (min 255 (up (to_z w16 (of_z w16 r)))) → nat_abs (to_z w16 (of_z w16 s)) ≡ summed p x
-  bounded {r} {s} k d e =
-      let low : to_z w16 (of_z w16 r) ≡ pos (up z) = (got w16 r k).is ∙ d ∙ ap (λ (y : ℤ). pos (up y)) total.is in
-      let small : Within (pos (min 255 (up z))) 255 0 = omega int in
-      let high : Held w16 (pos (min 255 (up z))) 255 0 = put s (e ∙ ap (λ (y : ℤ). pos (min 255 (up y))) low) small (fits_in small tt) in
-      nat high ∙ clamped z
-
 pub returns : goal.returns
-returns c = bounded (omega (arith, c.ranges.p.fits)) c.ranges.x c.requires c.at_least_0.type_inv c.at_least_0.ensures c.at_most_255.ensures
+returns c =
+    let z = pos c.args.p +ℤ c.args.x in
+    let total : Held w16 z 32767 32512 = add (nat_at c.args.p 255 (omega (arith, c.ranges.p.fits)) tt) (par_in c.ranges.x (size-within c.requires)) tt in
+    let s = got w16 c.clamp.result c.clamp.type_inv in
+    ap nat_abs (s.is ∙ c.clamp.ensures.value ∙ ap (λ (y : ℤ). int_max (pos 0) (int_min y (pos 255))) total.is ∙ clamped_from_0 255 z) ∙ clamped z

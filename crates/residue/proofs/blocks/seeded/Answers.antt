@@ -41,10 +41,12 @@ unfolding block
 bounded c l = record { small = λ k p q. subst (λ (z : ℤ). nat_abs z ≤ 16383) (sym (get_or-tab 16 (λ k. at c (0 + k)) k (pos 0) q)) (l.low k q) }
 
 pub inverse_wht_quick-first-requires : goal.inverse_wht_quick-first-requires
-inverse_wht_quick-first-requires c = subst (Bounded 0 16383) (sym c.block_of.ensures) (bounded c.args.c.now c.requires.low)
+unfolding block
+inverse_wht_quick-first-requires c = subst (Bounded 0 16383) (sym c.part_of.ensures) (bounded c.args.c.now c.requires.low)
 
 pub loop-b-preserved : goal.loop-b-preserved
 loop-b-preserved c = more c.loop-b.invariant c.loop-b-test.true (got w16 (at c.inverse_wht_quick-first.result c.loop-b.b) (omega arith)).is
 
 pub returns : goal.returns
-returns c = all c.args.c.now (c.inverse_wht_quick-first.ensures ∙ ap inverse_wht c.block_of.ensures) c.others-out.ensures c.loop-b.invariant c.loop-b-test.false
+unfolding block
+returns c = all c.args.c.now (c.inverse_wht_quick-first.ensures ∙ ap inverse_wht c.part_of.ensures) c.part_of-out.ensures c.loop-b.invariant c.loop-b-test.false

@@ -1,5 +1,5 @@
 -- The loop puts what Y2 gives into the first place of each block.
-use Rattle.std.proofs.Common.{◌≡◌, List, ℕ, ◌-◌, ◌*◌, ◌<◌, ◌≤◌, length, ℤ}
+use Rattle.std.proofs.Common.{◌≡◌, List, ℕ, ◌*◌, ◌<◌, ◌≤◌, length, ℤ}
 use Rattle.residue.specs.Transform.{at}
 use Rattle.residue.proofs.blocks.seeded.Given as goal
 
@@ -12,6 +12,3 @@ pub record Seeding (f l out : List ℤ) (b : ℕ) : Type 0 where
 
 abbrev pub invariant-loop-b : goal.invariant-loop-b
 invariant-loop-b l = Seeding l.first l.initial.out l.out l.b
-
-abbrev pub decreases-loop-b : goal.decreases-loop-b
-decreases-loop-b l = 16 - l.b

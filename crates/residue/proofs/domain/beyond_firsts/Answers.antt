@@ -1,9 +1,12 @@
 -- A turn looks at two halves of a block.
-use Rattle.std.proofs.Common.{◌≡◌, ◌↔◌, subst, arith, List, ℕ, ◌+◌, ◌-◌, ◌*◌, ◌<◌, ◌≤◌, ℤ, nat_abs}
+use Rattle.std.proofs.Common.{◌≡◌, ◌↔◌, subst, arith, Bool, false, List, ℕ, ◌+◌, ◌-◌, ◌*◌, ◌<◌, ◌≤◌, ℤ, nat_abs}
+use Rattle.std.specs.Prelude.{◌||◌}
+use Rattle.rfc6386.proofs.Laws.Tests.{or-false}
 use Rattle.residue.specs.Transform.{at}
 use Rattle.residue.specs.Inner.{Low, Open}
 use Rattle.residue.proofs.Areas.{either}
-use Rattle.residue.proofs.domain.beyond_firsts.Invariants.{Counted}
+use Rattle.residue.proofs.Parts.{part_range, part_test}
+use Rattle.residue.proofs.Refused.{or_none}
 use Rattle.residue.proofs.domain.beyond_firsts.Goals as goal
 
 -- two halves of a block
@@ -32,18 +35,24 @@ module _ {c : List ℤ} (b : ℕ) where
   upper : Open c 16 (16 * (b + 1)) → Low c (16 * b + 24) 8 4095
   upper o = record { low = λ k h. subst (λ (n : ℕ). nat_abs (at c n) ≤ 4095) (omega arith) (o.low (16 * b + (8 + k)) (omega arith) (λ e. omega arith)) }
 
--- a turn
-more : {c : List ℤ} {b bad : ℕ} (r s : ℕ) → Counted c b bad → b < 16 → (r ≤ 8) × ((r ≡ 0) ↔ Low c (16 * b + 17) 8 4095) → (s ≤ 8) × ((s ≡ 0) ↔ Low c (16 * b + 24) 8 4095)
-    → Counted c (b + 1) (bad + (r + s))
-more {c} {b} {bad} r s n h (l, (there, here)) (l', (there', here')) =
-    record {
-      most = omega arith;
-      few = omega (arith, n.few);
-      is-0 = (
-        λ e. both b (n.is-0.0 (omega arith)) (there (omega arith)) (there' (omega arith)),
-        λ o. let x = n.is-0.1 (before b o) in let y = here (lower b o) in let z = here' (upper b o) in omega arith,
-      );
-    }
+  -- a turn
+  more : {bad r s : Bool} → (bad ≡ false) ↔ Open c 16 (16 * b) → (r ≡ false) ↔ Low c (16 * b + 17) 8 4095 → (s ≡ false) ↔ Low c (16 * b + 24) 8 4095
+      → (bad || r || s ≡ false) ↔ Open c 16 (16 * (b + 1))
+  more {bad} {r} {s} n p q = (
+    λ e. let x = or-false (bad || r) s e in let y = or-false bad r x.0 in both (n.0 y.0) (p.0 y.1) (q.0 x.1),
+    λ o. or_none (bad || r) s (or_none bad r (n.1 (before o)) (p.1 (lower o))) (q.1 (upper o)),
+  )
 
 pub loop-b-preserved : goal.loop-b-preserved
-loop-b-preserved c = more c.beyond-low.result c.beyond-high.result c.loop-b.invariant c.loop-b-test.true c.beyond-low.ensures c.beyond-high.ensures
+loop-b-preserved c =
+    let l = c.args.c.now in
+    let b = c.loop-b.b in
+    more b c.loop-b.invariant
+    (part_test (part_range l (16 * b + 17) (16 * b + 25) 8 (omega arith) (omega (arith, c.requires, c.loop-b-test.true))) c.beyond-low.ensures)
+    (part_test (part_range l (16 * b + 24) (16 * b + 32) 8 (omega arith) (omega (arith, c.requires, c.loop-b-test.true))) c.beyond-high.ensures)
+
+pub returns : goal.returns
+returns c =
+    let l = c.loop-b in
+    let e : 16 * l.b ≡ 256 = omega (arith, l.auto.b-end, c.loop-b-test.false) in
+    subst (λ (n : ℕ). (l.bad ≡ false) ↔ Open c.args.c.now 16 n) e l.invariant

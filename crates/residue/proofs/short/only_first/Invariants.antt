@@ -1,5 +1,5 @@
 -- The bits seen are 0 exactly where all numbers looked at are.
-use Rattle.std.proofs.Common.{◌≡◌, ◌↔◌, List, ℕ, ◌-◌, ◌<◌, ◌≤◌, ℤ, pos}
+use Rattle.std.proofs.Common.{◌≡◌, ◌↔◌, List, ℕ, ◌<◌, ◌≤◌, ℤ, pos}
 use Rattle.residue.specs.Transform.{at}
 use Rattle.residue.proofs.short.only_first.Given as goal
 
@@ -11,6 +11,3 @@ pub record Seen (x : List ℤ) (i : ℕ) (z : ℤ) : Type 0 where
 
 abbrev pub invariant-loop-i : goal.invariant-loop-i
 invariant-loop-i l = Seen l.x l.i l.seen
-
-abbrev pub decreases-loop-i : goal.decreases-loop-i
-decreases-loop-i l = 16 - l.i

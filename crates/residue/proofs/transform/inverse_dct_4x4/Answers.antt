@@ -1,14 +1,7 @@
--- Four columns, then four rows of what they gave.
-use Rattle.residue.specs.Transform.{dct}
-use Rattle.residue.proofs.Passes.{Columns, row0, row1, row2, row3, rowed, block_of}
+-- What the passes ask follows from the block's range.
+use Rattle.std.proofs.Common.{arith}
+use Rattle.residue.proofs.Ranges.{dct_fits}
 use Rattle.residue.proofs.transform.inverse_dct_4x4.Goals as goal
 
-pub returns : goal.returns
-returns c =
-    let h : Columns dct 44431 c.args.x c.dct_column-c0.result c.dct_column-c1.result c.dct_column-c2.result c.dct_column-c3.result =
-    record { fits = tt; a_is = c.dct_column-c0.ensures; b_is = c.dct_column-c1.ensures; c_is = c.dct_column-c2.ensures; d_is = c.dct_column-c3.ensures } in
-    block_of
-    (rowed (row0 h) c.dct_row-r0.ensures)
-    (rowed (row1 h) c.dct_row-r1.ensures)
-    (rowed (row2 h) c.dct_row-r2.ensures)
-    (rowed (row3 h) c.dct_row-r3.ensures)
+pub inverse-requires-clause-fits : goal.inverse-requires-clause-fits
+inverse-requires-clause-fits c = dct_fits (record { sfits = omega arith }) c.requires

@@ -1,12 +1,9 @@
 -- `ring::first_five`: the loop lays a row of the first pass a turn.
-use Rattle.std.proofs.Common.{◌-◌, ◌≤◌}
+use Rattle.std.proofs.Common.{◌≤◌}
 use Rattle.steps.specs.Taps.{signed_taps}
 use Rattle.steps.specs.Window.{along}
 use Rattle.sixteens.specs.Rolling.{Rolling}
 use Rattle.sixteens.proofs.ring.first_five.Given as goal
 
 abbrev pub invariant-loop-r : goal.invariant-loop-r
-invariant-loop-r l = (l.r ≤ 5) × Rolling (along (signed_taps l.t) l.src l.window.at l.window.pitch) 0 l.r l.m
-
-abbrev pub decreases-loop-r : goal.decreases-loop-r
-decreases-loop-r l = 5 - l.r
+invariant-loop-r l = (l.r ≤ 5) × Rolling (along (signed_taps l.t) l.halo.src.now l.halo.window.at l.halo.window.pitch) 0 l.r l.m

@@ -1,6 +1,6 @@
 -- `ring::ring_line` meets its contract: each turn lays two samples more, and adds their parts to one lane more.
 use Rattle.std.proofs.Common.{◌+◌, ap₂, arith}
-use Rattle.steps.proofs.Laws.Twofold.{twice_more, twice_all}
+use Rattle.steps.proofs.Laws.Twofold.{twice_more}
 use Rattle.sixteens.proofs.Lanes.{adding_more}
 use Rattle.sixteens.proofs.ring.ring_line.Goals as goal
 
@@ -13,6 +13,3 @@ loop-c-preserved c =
       twice_more l.invariant.0 (omega arith) (omega (arith, p.to_in_bounds)) c.loop-c-test.true s.sample_value z.sample_value,
       adding_more l.invariant.1 (omega (arith, p.roomy.size)) (ap₂ ◌+◌ s.part_value z.part_value),
     )
-
-pub returns-clause-out_after : goal.returns-clause-out_after
-returns-clause-out_after c = twice_all c.loop-c.invariant.0 c.loop-c-test.false (omega arith)

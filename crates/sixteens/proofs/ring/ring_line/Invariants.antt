@@ -1,5 +1,5 @@
 -- `ring::ring_line`: the loop lays two samples and adds their parts to a lane a turn.
-use Rattle.std.proofs.Common.{◌+◌, ◌-◌}
+use Rattle.std.proofs.Common.{◌+◌}
 use Rattle.steps.specs.Tally.{part}
 use Rattle.steps.specs.Taps.{signed_taps}
 use Rattle.steps.proofs.Laws.Twofold.{Twice}
@@ -11,6 +11,3 @@ abbrev pub invariant-loop-c : goal.invariant-loop-c
 invariant-loop-c l =
     Twice l.fn.out l.to 8 8 (ring_step (signed_taps l.t) l.m l.ring) (λ c. ring_step (signed_taps l.t) l.m l.ring (8 + c)) l.out l.c
     × Adding l.fn.lanes (λ c. part (ring_clip (signed_taps l.t) l.m l.ring c) + part (ring_clip (signed_taps l.t) l.m l.ring (8 + c))) l.lanes l.c
-
-abbrev pub decreases-loop-c : goal.decreases-loop-c
-decreases-loop-c l = 8 - l.c

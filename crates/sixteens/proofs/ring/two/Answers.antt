@@ -29,7 +29,7 @@ pub ring_line-requires-clause-roomy : goal.ring_line-requires-clause-roomy
 ring_line-requires-clause-roomy c =
     let a = c.args in
     let ty = signed_taps c.taps_of-ty.result in
-    let pass = along (signed_taps c.taps_of-tx.result) a.src.now a.window.at a.window.pitch in
+    let pass = along (signed_taps c.taps_of-tx.result) a.halo.src.now a.halo.window.at a.halo.window.pitch in
     lanes_room c.loop-r.invariant.1.1.1.0 (λ q k. omega (arith, part_le (step_clip ty (six_down pass q k)), part_le (step_clip ty (six_down pass q (8 + k))))) c.loop-r-test.true
 
 pub loop-r-preserved : goal.loop-r-preserved
@@ -58,8 +58,8 @@ pub returns-clause-value : goal.returns-clause-value
 returns-clause-value c =
     let a = c.args in
     filled-raster c.loop-r.invariant.1.1.0 c.loop-r-test.false
-    ∙ window_block_lem 16 Sixtap a.src.now a.window.at a.window.pitch a.mx a.my _
-    (λ r k hr hk. two_sample Sixtap a.src.now a.window.at a.window.pitch _ _ a.mx a.my r k c.taps_of-tx.ensures.result_value c.taps_of-ty.ensures.result_value)
+    ∙ window_block_lem 16 Sixtap a.halo.src.now a.halo.window.at a.halo.window.pitch a.way.mx a.way.my _
+    (λ r k hr hk. two_sample Sixtap a.halo.src.now a.halo.window.at a.halo.window.pitch _ _ a.way.mx a.way.my r k c.taps_of-tx.ensures c.taps_of-ty.ensures)
 
 pub returns-clause-tally_after : goal.returns-clause-tally_after
 returns-clause-tally_after c =
@@ -69,5 +69,5 @@ returns-clause-tally_after c =
     ∙ rows_ext 16 16 _ _
     (λ r k hr hk.
     ap part
-    (two_clip Sixtap a.src.now a.window.at a.window.pitch _ _ a.mx a.my r k c.taps_of-tx.ensures.result_value c.taps_of-ty.ensures.result_value c.requires.le_my.0))
-    ∙ window_tally 16 Sixtap a.src.now a.window.at a.window.pitch a.mx a.my
+    (two_clip Sixtap a.halo.src.now a.halo.window.at a.halo.window.pitch _ _ a.way.mx a.way.my r k c.taps_of-tx.ensures c.taps_of-ty.ensures c.requires.le_my))
+    ∙ window_tally 16 Sixtap a.halo.src.now a.halo.window.at a.halo.window.pitch a.way.mx a.way.my

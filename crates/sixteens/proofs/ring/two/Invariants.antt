@@ -1,5 +1,5 @@
 -- `ring::two`: the loop leaves a row of the first pass and one of the second a turn.
-use Rattle.std.proofs.Common.{List, ℕ, ◌+◌, ◌-◌, ◌≤◌, ℤ}
+use Rattle.std.proofs.Common.{List, ℕ, ◌+◌, ◌≤◌, ℤ}
 use Rattle.rfc6386.specs.Clips.{step_clip}
 use Rattle.steps.specs.Tally.{part}
 use Rattle.steps.specs.Taps.{signed_taps}
@@ -15,11 +15,8 @@ clipped ts pass r c = part (step_clip ts (six_down pass r c))
 
 abbrev pub invariant-loop-r : goal.invariant-loop-r
 invariant-loop-r l =
-    let pass = along (signed_taps l.tx) l.src l.window.at l.window.pitch in
+    let pass = along (signed_taps l.tx) l.halo.src.now l.halo.window.at l.halo.window.pitch in
     At l.r l.ring
     × (Rolling pass l.r 5 l.m
     × (Filled 256 (over (signed_taps l.ty) pass) l.out l.r
     × (Lanes (λ r c. clipped (signed_taps l.ty) pass r c + clipped (signed_taps l.ty) pass r (8 + c)) l.lanes l.r × (l.r ≤ 16))))
-
-abbrev pub decreases-loop-r : goal.decreases-loop-r
-decreases-loop-r l = 16 - l.r

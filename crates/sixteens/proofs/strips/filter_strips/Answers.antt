@@ -7,9 +7,8 @@ pub returns-in-Bilinear-clause-tally_after : goal.returns-in-Bilinear-clause-tal
 returns-in-Bilinear-clause-tally_after c =
     let a = c.args in
     let w = a.way in
-    let p = c.requires in
     let e = c.in-Bilinear.is in
     sym
     (ap₂ ◌+◌
-    (rows_bilinear a.rows 8 a.left.now a.l.at a.l.pitch w.mx w.my e (λ i. omega (arith, c.type_inv.left i)) p.mx_bound p.my_bound)
-    (rows_bilinear a.rows 8 a.right.now a.r.at a.r.pitch w.mx w.my e (λ i. omega (arith, c.type_inv.right i)) p.mx_bound p.my_bound))
+    (rows_bilinear a.rows 8 a.left.now a.l.at a.l.pitch w.mx w.my e (λ i. omega (arith, c.type_inv.left i)) w.across w.down)
+    (rows_bilinear a.rows 8 a.right.now a.r.at a.r.pitch w.mx w.my e (λ i. omega (arith, c.type_inv.right i)) w.across w.down))

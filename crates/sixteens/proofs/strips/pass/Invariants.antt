@@ -1,5 +1,5 @@
 -- `strips::pass`: the loop leaves a row of both strips a turn.
-use Rattle.std.proofs.Common.{◌+◌, ◌-◌, ◌*◌, ◌≤◌}
+use Rattle.std.proofs.Common.{◌+◌, ◌*◌, ◌≤◌}
 use Rattle.rfc6386.specs.Picture.{step_at}
 use Rattle.rfc6386.specs.Sums.{sum_to}
 use Rattle.rfc6386.specs.Clips.{clip_at}
@@ -19,6 +19,3 @@ invariant-loop-q l =
     sum_to 8 (λ c. part (clip_at (signed_taps l.t) l.left (l.l.at + q * l.l.pitch + c) l.l_gap))
     + sum_to 8 (λ c. part (clip_at (signed_taps l.t) l.right (l.r.at + q * l.r.pitch + c) l.r_gap)))
     l.q l.sum)
-
-abbrev pub decreases-loop-q : goal.decreases-loop-q
-decreases-loop-q l = l.rows - l.q

@@ -4,7 +4,7 @@ use Rattle.rfc6386.specs.Clips.{clip_at}
 use Rattle.rfc6386.proofs.Laws.Sums.{sum_add}
 use Rattle.rfc6386.specs.declared.Clip.{Clip}
 use Rattle.steps.specs.Taps.{signed_taps}
-use Rattle.steps.proofs.Laws.Twofold.{twice_none, twice_more, twice_all}
+use Rattle.steps.proofs.Laws.Twofold.{twice_none, twice_more}
 use Rattle.steps.proofs.Laws.Tallies.{part_le, tallying_none, tallying_more, tallying_room, tallying_all}
 use Rattle.sixteens.proofs.strips.row.Goals as goal
 
@@ -31,9 +31,6 @@ loop-c-preserved c =
       twice_more l.invariant.0 (omega arith) (omega (arith, c.requires)) c.loop-c-test.true s.sample_value z.sample_value,
       tallying_more l.invariant.1 (ap₂ ◌+◌ s.part_value z.part_value),
     )
-
-pub returns-clause-out_after : goal.returns-clause-out_after
-returns-clause-out_after c = twice_all c.loop-c.invariant.0 c.loop-c-test.false (omega arith)
 
 pub returns-clause-value : goal.returns-clause-value
 returns-clause-value c =

@@ -1,5 +1,5 @@
 -- `strips::row`: the loop lays a sample of each strip and adds up their parts, a turn.
-use Rattle.std.proofs.Common.{◌+◌, ◌-◌}
+use Rattle.std.proofs.Common.{◌+◌}
 use Rattle.rfc6386.specs.Picture.{step_at}
 use Rattle.rfc6386.specs.Clips.{clip_at}
 use Rattle.steps.specs.Tally.{part}
@@ -15,6 +15,3 @@ invariant-loop-c l =
     × Tallying
     (λ c. part (clip_at (signed_taps l.t) l.left (l.l.at + c) l.l.pitch) + part (clip_at (signed_taps l.t) l.right (l.r.at + c) l.r.pitch)) l.c
     l.tally
-
-abbrev pub decreases-loop-c : goal.decreases-loop-c
-decreases-loop-c l = 8 - l.c

@@ -1,5 +1,5 @@
 -- `strips::six_strips` meets its contract: a pass left out changes nothing.
-use Rattle.std.proofs.Common.{◌≡◌, List, ℕ, ◌+◌, ◌*◌, ◌<◌, ℤ, get_or, refl, sym, ap, ap₂, ◌∙◌, arith}
+use Rattle.std.proofs.Common.{◌≡◌, List, ℕ, ◌+◌, ◌*◌, ◌<◌, ℤ, get_or, refl, sym, ap, ap₂, ◌∙◌}
 use Rattle.rfc6386.specs.Filter.{taps_of}
 use Rattle.rfc6386.specs.Picture.{step_at}
 use Rattle.rfc6386.specs.Clips.{clip_at}
@@ -24,39 +24,39 @@ module _ (src : List ℕ) (at pitch : ℕ) (bytes : (i : ℕ) → get_or src i 0
   across-clips : (mx : ℕ) {my : ℕ} → my ≡ 0 → ts ≡ taps_of Sixtap mx → (r c : ℕ) → clip_at ts src (at + 2 * pitch + r * pitch + c) 1 ≡ window_clip Sixtap src at pitch mx my r c
   across-clips mx z e r c = across_clip Sixtap src at pitch bytes ts mx r c e ∙ ap (λ (my : ℕ). window_clip Sixtap src at pitch mx my r c) (sym z)
 
-pub returns-then-mx-eq0-clause-strips : goal.returns-then-mx-eq0-clause-strips
-returns-then-mx-eq0-clause-strips c =
+pub returns-then-way-eq0-clause-strips : goal.returns-then-way-eq0-clause-strips
+returns-then-way-eq0-clause-strips c =
     let a = c.args in
-    let t = c.taps_of.ensures.result_value in
-    let z = c.if-mx-eq0.true in
+    let t = c.taps_of.ensures in
+    let z = c.if-way-eq0.true in
     strips_as c.pass.ensures.strips refl
-    (down a.left.now a.l.at a.l.pitch (λ i. omega (arith, c.type_inv.left i)) a.my z t) (down a.right.now a.r.at a.r.pitch (λ i. omega (arith, c.type_inv.right i)) a.my z t)
+    (down a.pair.left.now a.pair.l.at a.pair.l.pitch a.pair.left_bytes a.way.my z t) (down a.pair.right.now a.pair.r.at a.pair.r.pitch a.pair.right_bytes a.way.my z t)
 
-pub returns-then-mx-eq0-clause-tally_after : goal.returns-then-mx-eq0-clause-tally_after
-returns-then-mx-eq0-clause-tally_after c =
+pub returns-then-way-eq0-clause-tally_after : goal.returns-then-way-eq0-clause-tally_after
+returns-then-way-eq0-clause-tally_after c =
     let a = c.args in
-    let t = c.taps_of.ensures.result_value in
-    let z = c.if-mx-eq0.true in
+    let t = c.taps_of.ensures in
+    let z = c.if-way-eq0.true in
     c.pass.ensures.tally_after
     ∙ ap₂ ◌+◌
-    (strip_ext a.rows (down-clips a.left.now a.l.at a.l.pitch (λ i. omega (arith, c.type_inv.left i)) a.my z t))
-    (strip_ext a.rows (down-clips a.right.now a.r.at a.r.pitch (λ i. omega (arith, c.type_inv.right i)) a.my z t))
+    (strip_ext a.pair.rows (down-clips a.pair.left.now a.pair.l.at a.pair.l.pitch a.pair.left_bytes a.way.my z t))
+    (strip_ext a.pair.rows (down-clips a.pair.right.now a.pair.r.at a.pair.r.pitch a.pair.right_bytes a.way.my z t))
 
-pub returns-then-my-eq0-clause-strips : goal.returns-then-my-eq0-clause-strips
-returns-then-my-eq0-clause-strips c =
+pub returns-then-way-eq0-2-clause-strips : goal.returns-then-way-eq0-2-clause-strips
+returns-then-way-eq0-2-clause-strips c =
     let a = c.args in
-    let t = c.taps_of-then-my-eq0.ensures.result_value in
-    let z = c.if-my-eq0.true in
-    strips_as c.pass-then-my-eq0.ensures.strips refl
-    (across a.left.now a.l.at a.l.pitch (λ i. omega (arith, c.type_inv.left i)) a.mx z t)
-    (across a.right.now a.r.at a.r.pitch (λ i. omega (arith, c.type_inv.right i)) a.mx z t)
+    let t = c.taps_of-then-way-eq0-2.ensures in
+    let z = c.if-way-eq0-2.true in
+    strips_as c.pass-then-way-eq0-2.ensures.strips refl
+    (across a.pair.left.now a.pair.l.at a.pair.l.pitch a.pair.left_bytes a.way.mx z t)
+    (across a.pair.right.now a.pair.r.at a.pair.r.pitch a.pair.right_bytes a.way.mx z t)
 
-pub returns-then-my-eq0-clause-tally_after : goal.returns-then-my-eq0-clause-tally_after
-returns-then-my-eq0-clause-tally_after c =
+pub returns-then-way-eq0-2-clause-tally_after : goal.returns-then-way-eq0-2-clause-tally_after
+returns-then-way-eq0-2-clause-tally_after c =
     let a = c.args in
-    let t = c.taps_of-then-my-eq0.ensures.result_value in
-    let z = c.if-my-eq0.true in
-    c.pass-then-my-eq0.ensures.tally_after
+    let t = c.taps_of-then-way-eq0-2.ensures in
+    let z = c.if-way-eq0-2.true in
+    c.pass-then-way-eq0-2.ensures.tally_after
     ∙ ap₂ ◌+◌
-    (strip_ext a.rows (across-clips a.left.now a.l.at a.l.pitch (λ i. omega (arith, c.type_inv.left i)) a.mx z t))
-    (strip_ext a.rows (across-clips a.right.now a.r.at a.r.pitch (λ i. omega (arith, c.type_inv.right i)) a.mx z t))
+    (strip_ext a.pair.rows (across-clips a.pair.left.now a.pair.l.at a.pair.l.pitch a.pair.left_bytes a.way.mx z t))
+    (strip_ext a.pair.rows (across-clips a.pair.right.now a.pair.r.at a.pair.r.pitch a.pair.right_bytes a.way.mx z t))

@@ -7,4 +7,4 @@ pub returns-in-Bilinear-clause-tally_after : goal.returns-in-Bilinear-clause-tal
 returns-in-Bilinear-clause-tally_after c =
     let a = c.args in
     sym
-    (window_bilinear 16 a.src.now a.window.at a.window.pitch a.way.mx a.way.my c.in-Bilinear.is (λ i. omega (arith, c.type_inv.src i)) c.requires.mx_bound c.requires.my_bound)
+    (window_bilinear 16 a.src.now a.window.at a.window.pitch a.way.mx a.way.my c.in-Bilinear.is (λ i. omega (arith, c.type_inv.src i)) c.args.way.across c.args.way.down)

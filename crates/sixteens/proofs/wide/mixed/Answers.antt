@@ -1,56 +1,33 @@
 -- `wide::mixed` meets its contract: each turn lays four rows more of both passes, and keeps the last of the first for the next turn.
-use Rattle.std.proofs.Common.{◌+◌, ◌*◌, refl, ◌∙◌, arith}
+use Rattle.std.proofs.Common.{◌≡◌, ◌+◌, ◌*◌, refl, ◌∙◌, arith}
 use Rattle.rfc6386.specs.declared.FilterSet.TheVariants.{Bilinear}
-use Rattle.steps.proofs.Laws.Windows.{window_block_lem, held_next_column}
+use Rattle.steps.proofs.Laws.Windows.{window_block_lem}
 use Rattle.steps.proofs.Laws.Mixing.{middle}
 use Rattle.steps.proofs.Laws.Samples.{mixed_sample}
+use Rattle.sixteens.proofs.Calls.{copied_laid}
 use Rattle.sixteens.proofs.Rolls.{five-next, five-step, mix_first, mix_more}
 use Rattle.sixteens.proofs.Rows16.{filled_none, filled_more, filled-raster}
 use Rattle.sixteens.proofs.wide.mixed.Goals as goal
 
-pub mix_line-requires-clause-middle : goal.mix_line-requires-clause-middle
-mix_line-requires-clause-middle c = middle c.args.mx _ c.requires.mx_bound c.taps_of-tx.ensures.result_value
+pub loop-q-init : goal.loop-q-init
+loop-q-init c =
+    let w = c.args.halo.window in
+    (refl, (mix_first c.taps_of-tx.result c.args.halo.src.now (w.at + 2 * w.pitch + 2) w.pitch _ refl c.mix_line.ensures, filled_none refl))
 
-pub loop-r-init : goal.loop-r-init
-loop-r-init c =
-    let w = c.args.window in
-    (refl, (refl, (mix_first c.taps_of-tx.result c.args.src.now (w.at + 2 * w.pitch + 2) w.pitch _ refl c.mix_line.ensures, filled_none refl)))
-
-pub mix_rows-requires-clause-middle : goal.mix_rows-requires-clause-middle
-mix_rows-requires-clause-middle c = middle c.args.mx _ c.requires.mx_bound c.taps_of-tx.ensures.result_value
-
-pub mix_rows-requires-in-loop-r-clause-middle : goal.mix_rows-requires-in-loop-r-clause-middle
-mix_rows-requires-in-loop-r-clause-middle c = middle c.args.mx _ c.requires.mx_bound c.taps_of-tx.ensures.result_value
-
-pub mix_rows-requires-in-loop-r-clause-gap_in_bounds : goal.mix_rows-requires-in-loop-r-clause-gap_in_bounds
-mix_rows-requires-in-loop-r-clause-gap_in_bounds c =
-    let l = c.loop-r in
-    omega (arith, l.invariant.0, held_next_column _ _ 16 16 c.requires.held (l.r + 3) (omega (arith, c.loop-r-test.true, l.invariant.1.0)))
-
-pub mix_rows-requires-in-loop-r-clause-gap_in_bounds_2 : goal.mix_rows-requires-in-loop-r-clause-gap_in_bounds_2
-mix_rows-requires-in-loop-r-clause-gap_in_bounds_2 c =
-    let l = c.loop-r in
-    omega (arith, l.invariant.0, held_next_column _ _ 16 16 c.requires.held (l.r + 4) (omega (arith, c.loop-r-test.true, l.invariant.1.0)))
-
-pub mix_line-requires-in-loop-r-clause-middle : goal.mix_line-requires-in-loop-r-clause-middle
-mix_line-requires-in-loop-r-clause-middle c = middle c.args.my _ c.requires.my_bound c.taps_of-ty.ensures.result_value
-
-pub loop-r-preserved : goal.loop-r-preserved
-loop-r-preserved c =
-    let l = c.loop-r.invariant in
+pub loop-q-preserved : goal.loop-q-preserved
+loop-q-preserved c =
+    let l = c.loop-q.invariant in
     let tx = c.taps_of-tx.result in
-    let src = c.args.src.now in
-    let w = c.args.window in
+    let src = c.args.halo.src.now in
+    let w = c.args.halo.window in
     let at = w.at + 2 * w.pitch + 2 in
-    let three = mix_more tx src at w.pitch l.0 l.1.1.0 (omega arith) refl c.mix_rows.ensures in
-    let five = mix_more tx src at w.pitch l.0 three (omega arith) refl c.mix_rows-in-loop-r.ensures in (
+    let four : c.loop-q.q * 4 + 4 ≡ (c.loop-q.q + 1) * 4 = omega arith in
+    let three = mix_more tx src at w.pitch l.0 l.1.0 (omega arith) refl c.mix_rows.ensures in
+    let five = mix_more tx src at w.pitch l.0 three (omega arith) refl c.mix_rows-in-loop-q.ensures in (
       l.0,
-      (
-        omega (arith, l.1.0),
-        (
-          five-next five c.move_row.ensures,
-          filled_more 4 _ l.1.1.1 (omega (arith, l.1.0, c.loop-r-test.true)) c.mix_line-in-loop-r.ensures (λ q k hq hk. five-step c.taps_of-ty.result five q k hq hk),
-        ),
+      rw (← four) (
+        five-next five (copied_laid _ _ 64 16 c.copy_within.ensures.len c.copy_within.ensures.by_index.0 c.copy_within.ensures.by_index.2),
+        filled_more 4 _ l.1.1 (omega (arith, c.loop-q-test.true)) c.mix_line-in-loop-q.ensures (λ q k hq hk. five-step c.taps_of-ty.result five q k hq hk),
       ),
     )
 
@@ -59,10 +36,10 @@ returns c =
     let a = c.args in
     let tx = c.taps_of-tx in
     let ty = c.taps_of-ty in
-    let ex = tx.ensures.result_value in
-    let ey = ty.ensures.result_value in
-    filled-raster c.loop-r.invariant.1.1.1 c.loop-r-test.false
-    ∙ window_block_lem 16 Bilinear a.src.now a.window.at a.window.pitch a.mx a.my _
+    let ex = tx.ensures in
+    let ey = ty.ensures in
+    filled-raster c.loop-q.invariant.1.1 (omega (arith, c.loop-q-test.false))
+    ∙ window_block_lem 16 Bilinear a.halo.src.now a.halo.window.at a.halo.window.pitch a.way.mx a.way.my _
     (λ r k hr hk.
-    mixed_sample a.src.now a.window.at a.window.pitch (λ i. omega (arith, c.type_inv.src i)) tx.result ty.result a.mx a.my
-    (middle a.mx tx.result c.requires.mx_bound ex) (middle a.my ty.result c.requires.my_bound ey) ex ey r k)
+    mixed_sample a.halo.src.now a.halo.window.at a.halo.window.pitch a.halo.bytes tx.result ty.result a.way.mx a.way.my
+    (middle a.way.mx tx.result c.args.way.across ex) (middle a.way.my ty.result c.args.way.down ey) ex ey r k)

@@ -1,5 +1,5 @@
 -- `wide::pass`: the loop leaves a row a turn.
-use Rattle.std.proofs.Common.{◌+◌, ◌-◌, ◌*◌, ◌≤◌}
+use Rattle.std.proofs.Common.{◌+◌, ◌*◌, ◌≤◌}
 use Rattle.rfc6386.specs.Picture.{step_at}
 use Rattle.rfc6386.specs.Sums.{sum_to}
 use Rattle.rfc6386.specs.Clips.{clip_at}
@@ -14,6 +14,3 @@ invariant-loop-r l =
     (l.r ≤ 16)
     × (Filled 256 (λ r c. step_at (signed_taps l.t) l.src (l.window.at + r * l.window.pitch + c) l.gap) l.out l.r
     × Tallying (λ r. sum_to 16 (λ c. part (clip_at (signed_taps l.t) l.src (l.window.at + r * l.window.pitch + c) l.gap))) l.r l.sum)
-
-abbrev pub decreases-loop-r : goal.decreases-loop-r
-decreases-loop-r l = 16 - l.r

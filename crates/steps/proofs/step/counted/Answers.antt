@@ -1,15 +1,23 @@
 -- What is clamped is the number of the definition, and so is what is looked at for the tally.
-use Rattle.std.proofs.Common.{◌≡◌, refl, sym, ap, ap₂, ◌∙◌, [], ◌∷◌, ℕ, ◌+◌, ◌-◌, ◌*◌, ◌/◌, ◌<◌, ◌≤◌, ◌^◌, le_refl, arith, ℤ, pos, ◌-ℤ◌, w16}
+use Rattle.std.proofs.Common.{◌≡◌, refl, sym, ap, ap₂, ◌∙◌, [], ◌∷◌, ℕ, ◌+◌, ◌-◌, ◌*◌, ◌/◌, ◌<◌, ◌≤◌, ◌^◌, le_refl, arith, ℤ, pos, negsuc, ◌-ℤ◌, w16}
+use Rattle.std.proofs.lemmas.Int.{ints, clamps}
+use Rattle.std.specs.Int.{int_max, int_min}
 use Rattle.std.specs.Int.Signed.{mag}
 use Rattle.signed.specs.Held.{Held, got, lit, nat_at, sub, better, named, nat_need, nat}
 use Rattle.rfc6386.specs.Filter.{clamp255, rounded, step}
 use Rattle.rfc6386.specs.Clips.{clip_of, step_clip}
 use Rattle.rfc6386.proofs.Laws.Steps.{plus_of, minus_of, step_le}
 use Rattle.steps.specs.Tally.{part}
-use Rattle.steps.specs.Taps.{sizes_of, signed_taps, Small}
+use Rattle.steps.specs.Taps.{sizes_of, signed_taps}
 use Rattle.steps.proofs.Laws.Counting.{rounded_is}
 use Rattle.steps.specs.declared.taps.Taps.{Taps}
 use Rattle.steps.proofs.step.counted.Goals as goal
+
+-- what `clamp` leaves
+clamp_is : (z : ℤ) → int_max (pos 0) (int_min z (pos 255)) ≡ pos (clamp255 z)
+unfolding clamp255
+clamp_is (pos n) = omega (arith, ints, clamps)
+clamp_is (negsuc n) = omega (arith, ints, clamps)
 
 module _ (t : Taps) (a b c d e f : ℕ) where
   -- the two sums, what is added 8192 too high
@@ -19,9 +27,9 @@ module _ (t : Taps) (a b c d e f : ℕ) where
     most : more ≤ 49056
     under : less ≤ 8160
 
-  sums : Small t → {p q r s u v : ℕ} → (p ≡ t.a * a) × (p ≤ 255 * t.a) → (q ≡ t.c * c) × (q ≤ 255 * t.c) → (r ≡ t.d * d) × (r ≤ 255 * t.d)
+  sums : {p q r s u v : ℕ} → (p ≡ t.a * a) × (p ≤ 255 * t.a) → (q ≡ t.c * c) × (q ≤ 255 * t.c) → (r ≡ t.d * d) × (r ≤ 255 * t.d)
       → (s ≡ t.f * f) × (s ≤ 255 * t.f) → (u ≡ t.b * b) × (u ≤ 255 * t.b) → (v ≡ t.e * e) × (v ≤ 255 * t.e) → Sums (p + q + r + s + 8256) (u + v)
-  sums S P Q R T U V = record { added = omega arith; taken = omega arith; most = omega arith; under = omega arith }
+  sums P Q R T U V = record { added = omega arith; taken = omega arith; most = omega (arith, t.plus); under = omega (arith, t.minus) }
 
   -- the number of the definition, and what it is clamped to
   abbrev number : ℤ
@@ -49,15 +57,15 @@ module _ (t : Taps) (a b c d e f : ℕ) where
 pub overflow_cast-result : goal.overflow_cast-result
 overflow_cast-result c =
     let a = c.args in
-    let S = sums a.t a.a a.b a.c a.d a.e a.f c.requires.small c.times.ensures c.times-2.ensures c.times-3.ensures c.times-4.ensures c.times-5.ensures c.times-6.ensures in
-    nat_need (given a.t a.a a.b a.c a.d a.e a.f S c.clamped.result c.clamped.type_inv c.clamped.ensures) refl tt
+    let S = sums a.t a.a a.b a.c a.d a.e a.f c.times.ensures c.times-2.ensures c.times-3.ensures c.times-4.ensures c.times-5.ensures c.times-6.ensures in
+    nat_need (given a.t a.a a.b a.c a.d a.e a.f S c.clamp.result c.clamp.type_inv (c.clamp.ensures.value ∙ clamp_is _)) refl tt
 
 pub returns : goal.returns
 unfolding step step_clip
 returns c =
     let a = c.args in
-    let S = sums a.t a.a a.b a.c a.d a.e a.f c.requires.small c.times.ensures c.times-2.ensures c.times-3.ensures c.times-4.ensures c.times-5.ensures c.times-6.ensures in
+    let S = sums a.t a.a a.b a.c a.d a.e a.f c.times.ensures c.times-2.ensures c.times-3.ensures c.times-4.ensures c.times-5.ensures c.times-6.ensures in
     record {
-      sample_value = nat (given a.t a.a a.b a.c a.d a.e a.f S c.clamped.result c.clamped.type_inv c.clamped.ensures);
+      sample_value = nat (given a.t a.a a.b a.c a.d a.e a.f S c.clamp.result c.clamp.type_inv (c.clamp.ensures.value ∙ clamp_is _));
       part_value = c.part_of.ensures ∙ ap (λ (z : ℤ). part (clip_of z)) ((held a.t a.a a.b a.c a.d a.e a.f S).is ∙ is_number a.t a.a a.b a.c a.d a.e a.f S);
     }

@@ -1,19 +1,10 @@
--- `boundary::threshowl_predict_split` meets its contract. What `split_into` leaves, at what vectors, table and codes are. Assumes nothing.
-use Rattle.std.proofs.Common.{ap₂, List}
-use Rattle.rfc6386.specs.Vector.{lowering_of}
-use Rattle.rfc6386.specs.Macroblock.{split}
-use Rattle.rfc6386.specs.Report.{split_report}
-use Rattle.rfc6386.specs.declared.Mv.{Mv}
-use Rattle.rfc6386.specs.declared.FilterSet.{FilterSet}
-use Rattle.outputs.specs.Laws.{left_as}
-use Rattle.threshowl.specs.Boundary.{flag_of, picture_of}
+-- `boundary::threshowl_predict_split` meets its contract. What `split_into` leaves, at what vectors, table, lowering and codes are. Assumes nothing.
+use Rattle.threshowl.specs.Boundary.{picture_of}
+use Rattle.threshowl.proofs.Laws.{split_left}
 use Rattle.threshowl.proofs.boundary.threshowl_predict_split.Goals as goal
 
 pub returns : goal.returns
-unfolding split_report
 returns c =
     let a = c.args in
-    let ref = picture_of a.y.now a.u.now a.v.now a.y_stride a.u_stride a.v_stride a.mb_cols a.mb_rows in
-    left_as
-    (ap₂ (λ (set : FilterSet) (mvs : List Mv). split set (lowering_of (flag_of a.full_pixel)) ref a.mb_col a.mb_row mvs) c.set_of.ensures c.mvs_of_bytes.ensures)
-    c.codes_refusal.ensures c.split_into-ended.ensures.leaves
+    split_left (picture_of a.y.now a.u.now a.v.now a.y_stride a.u_stride a.v_stride a.mb_cols a.mb_rows) a.mb_col a.mb_row a.out.now
+    c.set_of.ensures c.lowering_of.ensures c.codes_refusal.ensures c.ended_number.ensures c.mvs_of_bytes.ensures c.split_into.ensures

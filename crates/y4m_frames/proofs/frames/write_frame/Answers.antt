@@ -1,5 +1,5 @@
 -- What `y4m_frames::frames::write_frame` reports and leaves: the tests in their order, and the file's frame.
-use Rattle.std.proofs.Common.{sym, ap, ◌∙◌, arith, length}
+use Rattle.std.proofs.Common.{refl, sym, ap, ◌∙◌, arith, length}
 use Rattle.y4m_frames.specs.Frames.{frame_length, padded_samples}
 use Rattle.y4m_frames.proofs.Calls.{write_1, write_14, write_7, writes-stopped, writes_done}
 use Rattle.y4m_frames.specs.declared.planes.Sizes.{Sizes}
@@ -10,7 +10,7 @@ returns-then-not-are_sizes c =
     let a = c.args in
     writes-stopped a.frame.now a.out.now _ _ _ _
     (write_1 a.frame.now a.width a.height (length a.out.now) (sym c.are_sizes.ensures ∙ c.if-not-are_sizes.true))
-    c.stop.ensures
+    refl
 
 pub returns-then-frame-padded_samples : goal.returns-then-frame-padded_samples
 returns-then-frame-padded_samples c =
@@ -18,7 +18,7 @@ returns-then-frame-padded_samples c =
     writes-stopped a.frame.now a.out.now _ _ _ _
     (write_14 a.frame.now a.width a.height (length a.out.now) (sym c.are_sizes.ensures ∙ c.if-not-are_sizes.false)
     (omega (arith, ap (λ (x : Sizes). padded_samples x) c.sizes_of-s.ensures.is)))
-    c.stop-then-frame-padded_samples.ensures
+    refl
 
 pub returns-then-out-n : goal.returns-then-out-n
 returns-then-out-n c =
@@ -27,7 +27,7 @@ returns-then-out-n c =
     (write_7 a.frame.now a.width a.height (length a.out.now) (sym c.are_sizes.ensures ∙ c.if-not-are_sizes.false)
     (omega (arith, ap (λ (x : Sizes). padded_samples x) c.sizes_of-s.ensures.is))
     (omega (arith, ap (λ (x : Sizes). frame_length x) c.sizes_of-s.ensures.is)))
-    c.stop-then-out-n.ensures
+    refl
 
 pub returns : goal.returns
 returns c =

@@ -1,11 +1,8 @@
 -- The loop of `y4m_frames::rows::crop_plane` has laid r rows.
-use Rattle.std.proofs.Common.{◌-◌, ◌≤◌}
+use Rattle.std.proofs.Common.{◌≤◌}
 use Rattle.y4m_frames.proofs.Puts.{Stacked}
 use Rattle.y4m_frames.proofs.PlaneLaws.{in_row}
 use Rattle.y4m_frames.proofs.rows.crop_plane.Given as goal
 
 abbrev pub invariant-loop-r : goal.invariant-loop-r
-invariant-loop-r l = (l.r ≤ l.h) × Stacked l.fn.out l.out l.at l.w l.r (in_row l.s l.from l.pw)
-
-abbrev pub decreases-loop-r : goal.decreases-loop-r
-decreases-loop-r l = l.h - l.r
+invariant-loop-r l = (l.r ≤ l.p.height) × Stacked l.fn.out l.out l.at l.p.width l.r (in_row l.s l.from l.p.wide)

@@ -9,7 +9,7 @@ loop-r-init c = (omega arith, stacked_none _ _ _ _)
 
 pub loop-r-preserved : goal.loop-r-preserved
 loop-r-preserved c =
-    (omega arith, pad_more c.args.s.now _ _ _ _ _ _ _ _ _ _ _ c.requires (omega arith) c.least-row.ensures c.pad_row.ensures c.loop-r.invariant.1)
+    (omega arith, pad_more c.args.s.now _ _ _ _ _ _ _ _ _ _ _ c.requires (omega arith) c.min-row.ensures c.pad_row.ensures c.loop-r.invariant.1)
 
 pub returns : goal.returns
 returns c = pad_all _ _ _ _ _ _ _ _ _ _ (omega arith) c.loop-r.invariant.1

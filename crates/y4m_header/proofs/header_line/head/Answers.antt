@@ -1,17 +1,14 @@
--- What `y4m_header::header_line::head` answers: the sizes, where no rule is broken and both are told.
-use Rattle.std.proofs.Common.{sym, ◌∙◌}
-use borrow.Author.Tests.{not-true, not-false}
-use Rattle.y4m_header.proofs.Laws.{head_bad, head_no_width, head_no_height, head_done}
+-- What `y4m_header::header_line::head` answers: the sizes, where both are told.
+use Rattle.std.proofs.Common.{ap, ◌∙◌}
+use Rattle.y4m_header.specs.Inner.{header_read}
+use Rattle.y4m_header.proofs.Laws.{head_no_width, head_no_height, head_done}
 use Rattle.y4m_header.proofs.header_line.head.Goals as goal
 
-pub returns-then-not-told : goal.returns-then-not-told
-returns-then-not-told c = c.refuse.ensures ∙ sym (head_bad _ _ (not-true c.args.told.good c.if-not-told.true))
+pub returns-in_err-told : goal.returns-in_err-told
+returns-in_err-told c = ap header_read c.from_residual.ensures ∙ head_no_width c.args.told c.args.n c.in_err-told.was
 
-pub returns-then-told-eq0 : goal.returns-then-told-eq0
-returns-then-told-eq0 c = c.refuse-then-told-eq0.ensures ∙ sym (head_no_width _ _ (not-false c.args.told.good c.if-not-told.false) c.if-told-eq0.true)
-
-pub returns-then-told-eq0-2 : goal.returns-then-told-eq0-2
-returns-then-told-eq0-2 c = c.refuse-then-told-eq0-2.ensures ∙ sym (head_no_height _ _ (not-false c.args.told.good c.if-not-told.false) c.if-told-eq0.false c.if-told-eq0-2.true)
+pub returns-in_err-told-2 : goal.returns-in_err-told-2
+returns-in_err-told-2 c = ap header_read c.from_residual-in_err-told-2.ensures ∙ head_no_height c.args.told c.args.n _ c.requires c.in_ok-told.was c.in_err-told-2.was
 
 pub returns : goal.returns
-returns c = sym (head_done _ _ (not-false c.args.told.good c.if-not-told.false) c.if-told-eq0.false c.if-told-eq0-2.false)
+returns c = head_done c.args.told c.args.n _ _ c.requires c.in_ok-told.was c.in_ok-told-2.was

@@ -1,2 +1,0 @@
--- The proofs of this crate: laws that they share, and one module for each function.
-pub mod Laws
