@@ -47,6 +47,12 @@ abbrev pub halo_placed : (at : ℕ) (m z : ℤ) → at < 16384 → mag m < 2 ^ h
 halo_placed at m z h f ok e = sub (placed at m z h f ok e) (lit 2 tt) tt
 
 module _ {p : Plane} {x y : ℕ} where
+  pub under_x : PlaneAccepts p x y → x < 16384
+  under_x A = omega (arith, A.x_inside, A.width_most)
+
+  pub under_y : PlaneAccepts p x y → y < 16384
+  under_y A = omega (arith, A.y_inside, A.height_most)
+
   -- the plane, and a column and a row that were computed
   pub source_of : PlaneAccepts p x y → {a b : ℤ} {u d u' d' : ℕ} (ha : Held w64 a u d) (hb : Held w64 b u' d')
       → (u ≤ 1048576) × (d ≤ 1048576) × (u' ≤ 1048576) × (d' ≤ 1048576) → Source p ha.val hb.val

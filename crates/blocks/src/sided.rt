@@ -12,7 +12,7 @@ use crate::lent::Lent;
 use crate::near::find;
 use crate::square::{halo_of, pixels_into};
 use crate::taken::took;
-use filters::sided::filter_sided;
+use filters::sided::filter_square;
 use motion_vectors::whole_pixel_fraction_is_zero;
 use rfc6386::{FilterSet, Mv};
 use steps::rect::{Spot, Window};
@@ -37,7 +37,7 @@ pub fn block_into<const SIDE: usize, const HALO: usize>(
     }
     let way = way_of(mv, set);
     if let Some(found) = find(lent, mv, SIDE + 5) {
-        let tally = filter_sided::<SIDE>(lent.plane, lent.window(found), way, out, spot);
+        let tally = filter_square::<SIDE>(lent.plane, lent.window(found), way, out, spot);
         return took(found.fetched, tally);
     }
     let mut fetched: u64 = 0;
@@ -46,7 +46,7 @@ pub fn block_into<const SIDE: usize, const HALO: usize>(
         at: 0,
         pitch: SIDE + 5,
     };
-    let tally = filter_sided::<SIDE>(&halo, whole, way, out, spot);
+    let tally = filter_square::<SIDE>(&halo, whole, way, out, spot);
     took(fetched, tally)
 }
 

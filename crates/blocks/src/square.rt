@@ -43,16 +43,17 @@ fn clamped_row(plane: &[u8], at: usize, w: usize, x0: i64, n: usize, out: &mut [
     }
 }
 
-// n rows of n clamped samples, to the first n * n bytes of out.
-fn clamped(plane: &[u8], at: Place, x0: i64, y0: i64, n: usize, out: &mut [u8])
+// `rows` rows of `cols` clamped samples, to the first rows * cols bytes of out.
+pub fn clamped(plane: &[u8], at: Place, x0: i64, y0: i64, cols: usize, rows: usize, out: &mut [u8])
     requires source { Source (plane_at plane.now at) x0 y0 }
-    requires n_bound { n ≤ 21 }
-    requires n_in_bounds { n * n ≤ length out.old }
-    ensures { out.new ≡ clamped_rect (plane_at plane.now at) x0 y0 n n out.old }
+    requires cols_bound { cols ≤ 21 }
+    requires rows_bound { rows ≤ 21 }
+    requires cols_in_bounds { rows * cols ≤ length out.old }
+    ensures { out.new ≡ clamped_rect (plane_at plane.now at) x0 y0 cols rows out.old }
 {
-    for r in 0..n {
+    for r in 0..rows {
         let from = clamp_at(y0, r, at.h) * at.stride;
-        clamped_row(plane, from, at.w, x0, n, out, r * n);
+        clamped_row(plane, from, at.w, x0, cols, out, r * cols);
     }
 }
 
@@ -66,19 +67,22 @@ pub fn inside(src: i64, n: usize, size: usize) -> bool
 }
 
 // The square of n samples a side from column x0, row y0 on, put into a rectangle of out; gives how many samples it fetched. Where all of it
-// lies inside, nothing needs clamping. Elsewhere `count` rows of `count` samples, n or one more, are clamped and the corner taken: clamped
-// straight into out, or with 4 or 8 of them, the compiler unrolls both ways into single bytes, and whole pixels took 1719 instructions for 941.
+// lies inside, nothing needs clamping. Elsewhere `rows` rows of `cols` samples, n or little more, are clamped and the corner taken: clamped straight
+// into out, or with some counts, the compiler unrolls both ways into single bytes, and whole pixels took 1719 instructions for 941; the callers' are
+// the least that do not.
 fn fetch(
     lent: Lent<'_>,
     x0: i64,
     y0: i64,
     n: usize,
-    count: usize,
+    cols: usize,
+    rows: usize,
     out: &mut [u8],
     spot: Spot,
 ) -> u64
     requires source { Source (plane_in lent) x0 y0 }
-    requires le_n { (1 ≤ n) × (n ≤ count) × (count ≤ 21) }
+    requires le_n { (1 ≤ n) × (n ≤ cols) × (cols ≤ 21) }
+    requires n_le_rows { (n ≤ rows) × (rows ≤ 21) }
     requires room { Room (length out.old) spot.stride spot.x spot.y n n }
     ensures out_after { out.new ≡ put out.old spot n (square n (image (plane_in lent.entry)) x0 y0) }
     ensures value { result ≡ length (square_of n lent.entry.at.w lent.entry.at.h x0 y0) }
@@ -93,11 +97,8 @@ fn fetch(
         return (n * n) as u64;
     }
     let mut wide = [0u8; 441];
-    clamped(lent.plane, at, x0, y0, count, &mut wide);
-    let corner = Window {
-        at: 0,
-        pitch: count,
-    };
+    clamped(lent.plane, at, x0, y0, cols, rows, &mut wide);
+    let corner = Window { at: 0, pitch: cols };
     copy_rect(out, spot, n, n, &wide, corner);
     (n * n) as u64
 }
@@ -110,6 +111,27 @@ pub fn origin(at: usize, m: i16) -> i64
     (at as i64) + whole_part(m)
 }
 
+// The square of n samples a side that a vector moves to, at whole pixels, put into a rectangle of out: `fetch` says what `cols` and `rows` are.
+pub fn fetch_pixels(
+    lent: Lent<'_>,
+    mv: Mv,
+    n: usize,
+    cols: usize,
+    rows: usize,
+    out: &mut [u8],
+    spot: Spot,
+) -> u64
+    requires le_n { (1 ≤ n) × (n ≤ cols) × (cols ≤ 21) }
+    requires n_le_rows { (n ≤ rows) × (rows ≤ 21) }
+    requires room { Room (length out.old) spot.stride spot.x spot.y n n }
+    ensures out_after { out.new ≡ put out.old spot n (square n (image (plane_in lent.entry)) (pos lent.entry.at.x +ℤ whole_part mv.col) (pos lent.entry.at.y +ℤ whole_part mv.row)) }
+    ensures value { result ≡ length (square_of n lent.entry.at.w lent.entry.at.h (pos lent.entry.at.x +ℤ whole_part mv.col) (pos lent.entry.at.y +ℤ whole_part mv.row)) }
+{
+    let x0 = origin(lent.at.x, mv.col);
+    let y0 = origin(lent.at.y, mv.row);
+    fetch(lent, x0, y0, n, cols, rows, out, spot)
+}
+
 // ---- the samples of a block of SIDE a side by its vector, and how many those are
 // That SIDE is 4, 8 or 16 is a clause, and AREA is handed over beside it: no type says more of a const parameter, and Rattle computes none.
 // At whole pixels, put into a rectangle of out.
@@ -119,10 +141,8 @@ pub fn pixels_into<const SIDE: usize>(lent: Lent<'_>, mv: Mv, out: &mut [u8], sp
     ensures out_after { out.new ≡ put out.old spot SIDE (pixels SIDE (image (plane_in lent.entry)) lent.entry.at.x lent.entry.at.y mv) }
     ensures value { result ≡ length (pixels_of SIDE (plane_in lent.entry) lent.entry.at.x lent.entry.at.y mv) }
 {
-    let x0 = origin(lent.at.x, mv.col);
-    let y0 = origin(lent.at.y, mv.row);
     let count = if SIDE == 16 { SIDE } else { SIDE + 1 };
-    fetch(lent, x0, y0, SIDE, count, out, spot)
+    fetch_pixels(lent, mv, SIDE, count, count, out, spot)
 }
 
 // On their own: not by a call of `pixels_into`, which the compiler turns into copies of single bytes before it knows the rectangle, so that a
@@ -146,7 +166,7 @@ pub fn pixels_of<const SIDE: usize, const AREA: usize>(
         x: 0,
         y: 0,
     };
-    *fetched = fetch(lent, x0, y0, SIDE, count, &mut out, whole);
+    *fetched = fetch(lent, x0, y0, SIDE, count, count, &mut out, whole);
     out
 }
 
@@ -162,6 +182,8 @@ pub fn halo_of<const SIDE: usize, const AREA: usize>(
     ensures fetched_after { fetched.new ≡ length (halo_of SIDE (plane_in lent.entry) lent.entry.at.x lent.entry.at.y mv) }
 {
     let n = SIDE + 5;
+    // with 9 rows of the smallest a fetch inside the picture took 819 instructions for 321
+    let rows = if SIDE == 4 { n + 3 } else { n };
     let x0 = origin(lent.at.x, mv.col) - 2;
     let y0 = origin(lent.at.y, mv.row) - 2;
     let mut out = [0u8; AREA];
@@ -170,6 +192,6 @@ pub fn halo_of<const SIDE: usize, const AREA: usize>(
         x: 0,
         y: 0,
     };
-    *fetched = fetch(lent, x0, y0, n, n, &mut out, whole);
+    *fetched = fetch(lent, x0, y0, n, n, rows, &mut out, whole);
     out
 }

@@ -10,7 +10,7 @@ ghost use Rattle.rfc6386.specs.Clips.{halo_clips};
 ghost use Rattle.rfc6386.specs.Block.{interpolated, fractions_refusal, shown, counted, filtered4, filtered8, filtered16};
 ghost use Rattle.steps.specs.Side.{Side};
 
-use crate::sided::filter_sided;
+use crate::sided::filter_square;
 use numbers::Refusal;
 use rfc6386::{Block, FilterSet, Sample};
 use steps::rect::{Spot, Window};
@@ -75,7 +75,7 @@ fn filtered<const SIDE: usize, const HALO: usize, const AREA: usize>(
         x: 0,
         y: 0,
     };
-    let tally = filter_sided::<SIDE>(halo, whole, way, &mut samples, all);
+    let tally = filter_square::<SIDE>(halo, whole, way, &mut samples, all);
     Ok(Block {
         samples,
         clips: clips_of(tally),

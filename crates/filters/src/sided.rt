@@ -54,7 +54,7 @@ fn middle_into<const SIDE: usize>(src: &[u8], window: Window, out: &mut [u8], sp
 
 // The block, by the filter of its side.
 // No trait over the side: its law would be this contract, and each of the three would prove it once more.
-pub fn filter_sided<const SIDE: usize>(
+pub fn filter_square<const SIDE: usize>(
     src: &[u8],
     window: Window,
     way: Way,
@@ -80,5 +80,27 @@ pub fn filter_sided<const SIDE: usize>(
             copy_rect(out, spot, 16, 16, &block, Window { at: 0, pitch: 16 });
             tally
         }
+    }
+}
+
+// The same of a side that is known only when running.
+pub fn filter_sided(
+    src: &[u8],
+    window: Window,
+    way: Way,
+    n: usize,
+    out: &mut [u8],
+    spot: Spot,
+) -> u32
+    requires side { Side n }
+    requires held { Held (length src.now) window.at window.pitch (n + 5) (n + 5) }
+    requires room { Room (length out.old) spot.stride spot.x spot.y n n }
+    ensures out_after { out.new ≡ put out.old spot n (window_block n src.now window way) }
+    ensures value { result ≡ tally_of (window_clips n src.now window way) }
+{
+    match n {
+        4 => filter_square::<4>(src, window, way, out, spot),
+        8 => filter_square::<8>(src, window, way, out, spot),
+        _ => filter_square::<16>(src, window, way, out, spot),
     }
 }

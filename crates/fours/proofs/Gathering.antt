@@ -14,6 +14,7 @@ use Rattle.rfc6386.specs.Filter.{step}
 use Rattle.rfc6386.specs.Picture.{six_at, step_at}
 use Rattle.rfc6386.proofs.Laws.Raster.{row_fits, within-true, length-written}
 use Rattle.rfc6386.proofs.Laws.Steps.{same_six}
+use Rattle.steps.specs.Rows.{Room}
 use Rattle.steps.proofs.Laws.Copying.{within-false, written_look}
 
 -- where the copies lie in a list: n of them, of `rows` rows each
@@ -45,6 +46,18 @@ pub record Gathered (g : Copies) (src : List ℕ) (at pitch : ℕ) (a : List ℕ
 
 pub gathered_none : {g : Copies} {src : List ℕ} {at pitch : ℕ} {a : List ℕ} → length a ≡ g.n * g.group * g.s → Gathered g src at pitch a 0
 gathered_none e = record { size = e; done = λ j h r c hr hc. absurd (omega arith) }
+
+-- the room that the copy of a turn asks
+pub gathered_room : {g : Copies} {src : List ℕ} {at pitch : ℕ} {a : List ℕ} {k : ℕ} → Gathered g src at pitch a k → Fit g → k < g.n
+    → Room (length a) g.s g.x (k * g.group) g.w g.rows
+gathered_room {g} {k = k} G F hk =
+    record {
+      some = F.some;
+      across = F.across;
+      down = λ r h.
+          let q : k * g.group + r < g.n * g.group = omega (arith, row_fits k g.n g.group hk, F.down) in
+          omega (arith, row_fits (k * g.group + r) (g.n * g.group) g.s q, G.size, F.across);
+    }
 
 -- a row of a copy lies in the list
 row_in : {g : Copies} {src : List ℕ} {at pitch : ℕ} {a : List ℕ} {k : ℕ} → Gathered g src at pitch a k → Fit g → (j r m : ℕ) → j < g.n → r < g.rows → m < g.s

@@ -1,7 +1,8 @@
 -- A refusal's number is never 0, and no two refusals have one number: so a number tells the result of a call that gives back nothing more.
-use Rattle.std.proofs.Common.{◌≡◌, ◌∙◌, sym, ap, ℕ, ◌≤◌, suc, zero, refl, arith, Result, Ok, Err}
+use Rattle.std.proofs.Common.{◌≡◌, ◌∙◌, sym, ap, ℕ, ◌≤◌, ◌<◌, suc, zero, refl, arith, Result, Ok, Err}
+use Rattle.std.proofs.Math.Bridge.{le_prop}
 use Rattle.numbers.specs.declared.Refusal.{Refusal}
-use Rattle.numbers.specs.declared.Refusal.TheVariants.{Size, Stride, Length, Position, Code, Vectors, Room, Fraction, Orders, Version, Domain, Header, Mark, Cut, Recording, Totals}
+use Rattle.numbers.specs.declared.Refusal.TheVariants.{Size, Stride, Length, Position, Code, Vectors, Room, Fraction, Orders, Version, Domain, Header, Mark, Cut, Recording, Totals, Other}
 use Rattle.numbers.specs.Outcome.{number_of, outcome, told}
 
 pub number_least : (e : Refusal) → 1 ≤ number_of e
@@ -21,6 +22,7 @@ number_least Mark = omega arith
 number_least Cut = omega arith
 number_least Recording = omega arith
 number_least Totals = omega arith
+number_least (Other o) = let b = o.beyond in omega (arith, b)
 
 -- what refuses is not told as done
 pub not_done : (e : Refusal) → number_of e ≡ 0 → ⊥
@@ -45,7 +47,28 @@ refusal_of (suc (suc (suc (suc (suc (suc (suc (suc (suc (suc (suc (suc (suc zero
 refusal_of (suc (suc (suc (suc (suc (suc (suc (suc (suc (suc (suc (suc (suc (suc zero)))))))))))))) = Cut
 refusal_of (suc (suc (suc (suc (suc (suc (suc (suc (suc (suc (suc (suc (suc (suc (suc zero))))))))))))))) = Recording
 refusal_of (suc (suc (suc (suc (suc (suc (suc (suc (suc (suc (suc (suc (suc (suc (suc (suc zero)))))))))))))))) = Totals
-refusal_of (suc (suc (suc (suc (suc (suc (suc (suc (suc (suc (suc (suc (suc (suc (suc (suc (suc n))))))))))))))))) = Totals
+refusal_of (suc (suc (suc (suc (suc (suc (suc (suc (suc (suc (suc (suc (suc (suc (suc (suc (suc n))))))))))))))))) = Other (record { number = suc (suc (suc (suc (suc (suc (suc (suc (suc (suc (suc (suc (suc (suc (suc (suc (suc n)))))))))))))))); beyond = omega arith })
+
+other_again : (n : ℕ) (b : 16 < n) → refusal_of n ≡ Other (record { number = n; beyond = b })
+unfolding refusal_of
+other_again zero b = absurd (omega (arith, b))
+other_again (suc zero) b = absurd (omega (arith, b))
+other_again (suc (suc zero)) b = absurd (omega (arith, b))
+other_again (suc (suc (suc zero))) b = absurd (omega (arith, b))
+other_again (suc (suc (suc (suc zero)))) b = absurd (omega (arith, b))
+other_again (suc (suc (suc (suc (suc zero))))) b = absurd (omega (arith, b))
+other_again (suc (suc (suc (suc (suc (suc zero)))))) b = absurd (omega (arith, b))
+other_again (suc (suc (suc (suc (suc (suc (suc zero))))))) b = absurd (omega (arith, b))
+other_again (suc (suc (suc (suc (suc (suc (suc (suc zero)))))))) b = absurd (omega (arith, b))
+other_again (suc (suc (suc (suc (suc (suc (suc (suc (suc zero))))))))) b = absurd (omega (arith, b))
+other_again (suc (suc (suc (suc (suc (suc (suc (suc (suc (suc zero)))))))))) b = absurd (omega (arith, b))
+other_again (suc (suc (suc (suc (suc (suc (suc (suc (suc (suc (suc zero))))))))))) b = absurd (omega (arith, b))
+other_again (suc (suc (suc (suc (suc (suc (suc (suc (suc (suc (suc (suc zero)))))))))))) b = absurd (omega (arith, b))
+other_again (suc (suc (suc (suc (suc (suc (suc (suc (suc (suc (suc (suc (suc zero))))))))))))) b = absurd (omega (arith, b))
+other_again (suc (suc (suc (suc (suc (suc (suc (suc (suc (suc (suc (suc (suc (suc zero)))))))))))))) b = absurd (omega (arith, b))
+other_again (suc (suc (suc (suc (suc (suc (suc (suc (suc (suc (suc (suc (suc (suc (suc zero))))))))))))))) b = absurd (omega (arith, b))
+other_again (suc (suc (suc (suc (suc (suc (suc (suc (suc (suc (suc (suc (suc (suc (suc (suc zero)))))))))))))))) b = absurd (omega (arith, b))
+other_again (suc (suc (suc (suc (suc (suc (suc (suc (suc (suc (suc (suc (suc (suc (suc (suc (suc n))))))))))))))))) b = ap (λ (h : 16 < suc (suc (suc (suc (suc (suc (suc (suc (suc (suc (suc (suc (suc (suc (suc (suc (suc n))))))))))))))))). Other (record { number = suc (suc (suc (suc (suc (suc (suc (suc (suc (suc (suc (suc (suc (suc (suc (suc (suc n)))))))))))))))); beyond = h })) (le_prop (omega arith) b)
 
 refusal_again : (e : Refusal) → refusal_of (number_of e) ≡ e
 unfolding refusal_of
@@ -65,6 +88,7 @@ refusal_again Mark = refl
 refusal_again Cut = refl
 refusal_again Recording = refl
 refusal_again Totals = refl
+refusal_again (Other o) = other_again o.number o.beyond
 
 pub one_refusal : (a b : Refusal) → number_of a ≡ number_of b → a ≡ b
 one_refusal a b e = sym (refusal_again a) ∙ ap refusal_of e ∙ refusal_again b

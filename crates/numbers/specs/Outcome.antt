@@ -1,7 +1,7 @@
 -- The number of each refusal, and how a call's result is told by number.
 use Rattle.std.specs.Prelude.{ℕ, Result, Ok, Err}
 use Rattle.numbers.specs.declared.Refusal.{Refusal}
-use Rattle.numbers.specs.declared.Refusal.TheVariants.{Size, Stride, Length, Position, Code, Vectors, Room, Fraction, Orders, Version, Domain, Header, Mark, Cut, Recording, Totals}
+use Rattle.numbers.specs.declared.Refusal.TheVariants.{Size, Stride, Length, Position, Code, Vectors, Room, Fraction, Orders, Version, Domain, Header, Mark, Cut, Recording, Totals, Other}
 
 abbrev pub number_of : Refusal → ℕ
 number_of Size = 1
@@ -20,6 +20,7 @@ number_of Mark = 13
 number_of Cut = 14
 number_of Recording = 15
 number_of Totals = 16
+number_of (Other o) = o.number
 
 -- what `done` makes of the value that a call gives back, or what `refused` makes of the number by which it refuses
 abbrev pub outcome : {A B : Type 0} → (A → B) → (ℕ → B) → Result A Refusal → B

@@ -1,8 +1,12 @@
 // Why a call refuses, and the number that C gets for it, 0 where it does not. README says when each is given, and the definitions say exactly.
 #![tactic(auto)]
 
+mod other;
+
 ghost use Rattle.std.specs.Prelude.{◌≡◌};
 ghost use Rattle.numbers.specs.Outcome.{number_of, told};
+
+pub use other::Other;
 
 #[derive(Clone, Copy, Debug, PartialEq, Eq)]
 pub enum Refusal {
@@ -38,6 +42,8 @@ pub enum Refusal {
     Recording,
     // a running total that would leave 64 bits
     Totals,
+    // a refusal of the caller's own, handed over to stand among these
+    Other(Other),
 }
 
 impl From<Refusal> for u32 {
@@ -61,6 +67,7 @@ impl From<Refusal> for u32 {
             Refusal::Cut => 14,
             Refusal::Recording => 15,
             Refusal::Totals => 16,
+            Refusal::Other(other) => other.number,
         }
     }
 }
@@ -73,4 +80,30 @@ pub fn number(done: Result<(), Refusal>) -> u32
         Ok(()) => 0,
         Err(refusal) => u32::from(refusal),
     }
+}
+
+// What a number tells: 0 is done, and every other number a refusal.
+pub fn refusal_of(number: u32) -> Result<(), Refusal>
+    ensures { told result ≡ number }
+{
+    Err(match number {
+        0 => return Ok(()),
+        1 => Refusal::Size,
+        2 => Refusal::Stride,
+        3 => Refusal::Length,
+        4 => Refusal::Position,
+        5 => Refusal::Code,
+        6 => Refusal::Vectors,
+        7 => Refusal::Room,
+        8 => Refusal::Fraction,
+        9 => Refusal::Orders,
+        10 => Refusal::Version,
+        11 => Refusal::Domain,
+        12 => Refusal::Header,
+        13 => Refusal::Mark,
+        14 => Refusal::Cut,
+        15 => Refusal::Recording,
+        16 => Refusal::Totals,
+        _ => Refusal::Other(Other { number }),
+    })
 }

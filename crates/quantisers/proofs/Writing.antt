@@ -19,12 +19,32 @@ use Rattle.quantisers.proofs.Ranges.{zero_level, product_at, length-products}
 use Rattle.quantisers.proofs.Keeping.{Kept}
 use Rattle.quantisers.specs.declared.Factors.{Factors}
 
+-- ---- a loop over all of a part
+module _ {d : List ℤ} {i : ℕ} {f : ℕ → ℤ} where
+  pub part_none : Part d d i 0 f
+  part_none = record { size = refl; done = λ k h. absurd (omega arith); before = λ j h. refl; after = λ j h. refl }
+
+  pub part_more : {d' : List ℤ} {k : ℕ} {v : ℤ} → Part d d' i k f → i + k < length d → v ≡ f k → Part d (set d' (i + k) v) i (k + 1) f
+  part_more {d'} {k} {v} P h e =
+      record {
+        size = length-set d' (i + k) v ∙ P.size;
+        done =
+            below_more (λ m. at (set d' (i + k) v) (i + m) ≡ f m) k
+            (λ m l. get_or-set_other d' (i + k) (i + m) v (pos 0) (λ q. omega arith) ∙ P.done m l)
+            (get_or-set_same d' (i + k) v (pos 0) (omega (arith, P.size)) ∙ e);
+        before = λ j l. get_or-set_other d' (i + k) j v (pos 0) (λ q. omega arith) ∙ P.before j l;
+        after = λ j l. get_or-set_other d' (i + k) j v (pos 0) (λ q. omega arith) ∙ P.after j (omega arith);
+      }
+
 -- ---- a loop over numbers at one distance
 -- an earlier one stands before
 pub before : (step : ℕ) {m k : ℕ} → m < k → step * m + step ≤ step * k
 before step {m} {k} h = subst (λ (n : ℕ). n ≤ step * k) (mul-suc step m) (mul-le-mul_left step h)
 
 module _ {d : List ℤ} {i step : ℕ} {f : ℕ → ℤ} where
+  pub spaced_none : Spaced d d i step 0 f
+  spaced_none = record { size = refl; done = λ b h. absurd (omega arith); rest = λ j h. refl }
+
   pub spaced_more : {d' : List ℤ} {k : ℕ} {v : ℤ} → 0 < step → Spaced d d' i step k f → i + step * k < length d → v ≡ f k → Spaced d (set d' (i + step * k) v) i step (k + 1) f
   spaced_more {d'} {k} {v} p S h e =
       record {

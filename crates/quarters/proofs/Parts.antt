@@ -20,12 +20,13 @@ use Rattle.rfc6386.specs.Macroblock.{subblock}
 use Rattle.rfc6386.specs.Report.{one_in, luma}
 use Rattle.rfc6386.proofs.Laws.Raster.{raster_ext, get_or-written, length-written, written_ext, written_all, within_is}
 use Rattle.rfc6386.proofs.Laws.Blocks.{block_at, block_part}
-use Rattle.rfc6386.proofs.Laws.Fetched.{length-block, length_tiles, cost_most, one_in_lem, luma_apart, luma_one, luma_least, luma_split}
-use Rattle.rfc6386.proofs.Laws.Sums.{rows_ext, sum_quarters}
+use Rattle.rfc6386.proofs.Laws.Fetched.{cost, length-block, length_tiles, cost_most, one_in_lem, luma_apart, luma_one, luma_least, luma_split, luma_most}
+use Rattle.rfc6386.proofs.Laws.Sums.{sum_le, rows_ext, sum_quarters}
 use Rattle.rfc6386.proofs.Laws.Clipping.{totals_ext, totals_le}
 use Rattle.rfc6386.specs.declared.Mv.{Mv}
 use Rattle.rfc6386.specs.declared.FilterSet.{FilterSet}
 use Rattle.rfc6386.specs.declared.Clips.{Clips}
+use Rattle.steps.specs.Rows.{Room}
 use Rattle.steps.specs.Side.{Side}
 use Rattle.steps.specs.Tally as clip
 use Rattle.steps.specs.Tally.{tally_of}
@@ -49,6 +50,14 @@ sized {n = n} S = of S.side
     of (inl e) = record { blocks = omega arith; least = omega arith }
     of (inr (inl e)) = record { blocks = omega arith; least = omega arith }
     of (inr (inr e)) = record { blocks = omega arith; least = omega arith }
+
+-- its corner lies inside
+pub corner : {x y n : ℕ} → Square x y n → (x < 16) × (y < 16)
+corner S = (omega (arith, (sized S).least, S.across), omega (arith, (sized S).least, S.down))
+
+-- it lies in a list of sixteen rows of sixteen
+pub room : {x y n bytes : ℕ} → Square x y n → bytes ≡ 256 → Room bytes 16 x y n n
+room S e = record { some = omega (arith, (sized S).least); across = S.across; down = λ r h. omega (arith, S.across, S.down) }
 
 -- a square of another side than 4 and its four quarters
 pub record Quarters (x y n h : ℕ) : Type 0 where
@@ -276,7 +285,10 @@ module _ (low : Lowering) (p : Plane) (at_x at_y : ℕ) (mvs : List Mv) where
   count_few x y n (inr (inl e)) h = subst (λ (k : ℕ). count k x y ≤ 324) (sym e) (quarter_few x y)
   count_few x y n (inr (inr e)) h = absurd (omega arith)
 
-  -- all of it, where no quarter has one vector
+  -- all of it: never more than sixteen blocks, and those where no quarter has one vector
+  pub count_most : count 16 0 0 ≤ 1296
+  count_most = omega (arith, luma_most low p at_x at_y mvs, sum_le 16 81 (λ b. cost 4 (luma_vector low (sent mvs b))) (λ b h. cost_most 4 (luma_vector low (sent mvs b))))
+
   count_split : ((q : ℕ) → q < 4 → OneVector mvs (q % 2 * 8) (q / 2 * 8) 8 → ⊥)
       → length (tiles_of 4 p at_x at_y (λ b. luma_vector low (sent mvs b))) ≡ count 16 0 0
   count_split none =
@@ -342,6 +354,9 @@ module _ (set : FilterSet) (low : Lowering) (p : Plane) (at_x at_y : ℕ) (mvs :
 
   pub takes_few : (x y n : ℕ) → Side n → n < 16 → takes n x y ≤ 1000000000000000
   takes_few x y n side h = most _ (clips n x y).low (clips n x y).high (omega (arith, count_few low p at_x at_y mvs x y n side h)) (clips-most x y n (omega arith))
+
+  pub all_few : takes 16 0 0 ≤ 1000000000000000
+  all_few = most _ (clips 16 0 0).low (clips 16 0 0).high (count_most low p at_x at_y mvs) (clips-most 0 0 16 (omega arith))
 
   -- the square of side 16 is all there is
   pub clips_all : clips 16 0 0 ≡ clips_by 16 set (image p) at_x at_y (λ r c. luma_vector low (sent mvs (subblock r c)))

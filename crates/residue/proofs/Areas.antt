@@ -1,4 +1,4 @@
--- Samples of which an area is finished: a block put in sample by sample, and two areas that make one. Assumes nothing.
+-- Samples of which an area is finished: nothing yet, a block put in sample by sample, and two areas that make one. Assumes nothing.
 use mathlib.Core.Path.{◌≡◌, refl, sym, ap, ap₂, ◌∙◌, subst}
 use mathlib.Core.Bool.{Bool, true, false}
 use mathlib.Core.List.{List}
@@ -29,6 +29,13 @@ either a b {P} less more = go (ltb a b) refl
     go : (t : Bool) → ltb a b ≡ t → P
     go true e = less (ltb-true a b e)
     go false e = more (ltb-false a b e)
+
+-- ---- nothing yet
+pub area_no_rows : {d : List ℕ} {i w y a b : ℕ} {f : ℕ → ℕ → ℕ} → Area d d i w y y a b f
+area_no_rows = record { size = refl; done = λ r q h. absurd (omega (arith, h)); rest = λ j h. refl }
+
+pub area_no_columns : {d : List ℕ} {i w y z a : ℕ} {f : ℕ → ℕ → ℕ} → Area d d i w y z a a f
+area_no_columns = record { size = refl; done = λ r q h. absurd (omega (arith, h)); rest = λ j h. refl }
 
 -- ---- outside it nothing changes
 moved : {y z a b r q s t : ℕ} → r ≡ s → q ≡ t → Inside y z a b s t → Inside y z a b r q
@@ -65,6 +72,9 @@ pub record Putting (d₀ : List ℕ) (s : Spot) (p : List ℕ) (d : List ℕ) (k
   pub size : length d ≡ length d₀
   pub done : (j : ℕ) → j < k → get_or d (place s j) 0 ≡ get_or p j 0
   pub rest : (n : ℕ) → ((j : ℕ) → j < k → n ≡ place s j → ⊥) → get_or d n 0 ≡ get_or d₀ n 0
+
+pub putting_none : {d : List ℕ} {s : Spot} {p : List ℕ} → Putting d s p d 0
+putting_none = record { most = omega arith; size = refl; done = λ j h. absurd (omega arith); rest = λ n h. refl }
 
 -- every sample lies in the list, and no two at one place
 pub place_in : {n : ℕ} {s : Spot} → Room n s → (k : ℕ) → k < 16 → (s.y + k / 4 ≤ (s.y + k / 4) * s.w) × (place s k < n)

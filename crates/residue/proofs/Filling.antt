@@ -14,5 +14,8 @@ pub record Filled {A : Type 0} (d : A) (n : ℕ) (f : ℕ → A) (l : List A) (i
   pub done : (k : ℕ) → k < i → get_or l k d ≡ f k
 
 module _ {A : Type 0} {d : A} {n : ℕ} {f : ℕ → A} {l : List A} where
+  pub filled_none : length l ≡ n → Filled d n f l 0
+  filled_none e = record { size = e; most = omega arith; done = λ k h. absurd (omega arith) }
+
   pub filled_all : {i : ℕ} → Filled d n f l i → n ≤ i → l ≡ tab n f
   filled_all F h = is-tab d n f l F.size (λ k m. F.done k (omega arith))

@@ -20,13 +20,10 @@ pub fn shim_split_chroma(vectors: &[u8], out: &mut [u8]) -> u32 {
         return 255;
     }
     let mut all = [0u8; 16];
-    for (four, mv) in all
-        .as_chunks_mut::<4>()
-        .0
-        .iter_mut()
-        .zip(split_chroma_mvs(mvs_of(vectors)))
-    {
-        *four = bytes_of(mv);
-    }
+    all.copy_from_slice(
+        split_chroma_mvs(mvs_of(vectors))
+            .map(bytes_of)
+            .as_flattened(),
+    );
     give(Ok(all), out)
 }

@@ -64,6 +64,9 @@ pub record Halved (f : ℕ → ℕ → ℕ) (m : List ℕ) (r : ℕ) : Type 0 wh
   pub upper : (q : ℕ) → q < r → (c : ℕ) → c < 16 → get_or m (q * 16 + c) 0 ≡ f q c
   pub lower : (q : ℕ) → q < r → (c : ℕ) → c < 16 → get_or m (q * 16 + 128 + c) 0 ≡ f (q + 8) c
 
+pub halved_none : {f : ℕ → ℕ → ℕ} {m : List ℕ} → length m ≡ 256 → Halved f m 0
+halved_none e = record { size = e; upper = λ q h. absurd (omega arith); lower = λ q h. absurd (omega arith) }
+
 pub halved_more : {r : ℕ} {f : ℕ → ℕ → ℕ} {m m' : List ℕ} → Halved f m r → r < 8 → m' ≡ laid_twice m (r * 16) 128 16 (f r) (f (r + 8)) → Halved f m' (r + 1)
 halved_more {r} {f} {m} {m'} H room e =
     record {

@@ -17,8 +17,8 @@ returns-then-whole_pixel_fraction_is_zero-clause-value g c =
     let whole = sym c.whole_pixel_fraction_is_zero.ensures ∙ c.if-whole_pixel_fraction_is_zero.true in
     takes-pixels g.row.SIDE _ _ _ _ _ whole c.pixels_into.ensures.value
 
-pub filter_sided-tally-requires-clause-held : goal.filter_sided-tally-requires-clause-held
-filter_sided-tally-requires-clause-held g c = found_held g.row.SIDE c.args.lent c.window.ensures c.in-Some.ensures.halo_at
+pub filter_square-tally-requires-clause-held : goal.filter_square-tally-requires-clause-held
+filter_square-tally-requires-clause-held g c = found_held g.row.SIDE c.args.lent c.window.ensures c.in-Some.ensures.halo_at
 
 pub took-requires : goal.took-requires
 took-requires g c = omega (arith, few_fetched (g.row.SIDE + 5) _ _ _ _ (omega (arith, side_most c.requires.side)) c.in-Some.ensures.fetched_value)
@@ -26,7 +26,7 @@ took-requires g c = omega (arith, few_fetched (g.row.SIDE + 5) _ _ _ _ (omega (a
 pub returns-in-Some-clause-out_after : goal.returns-in-Some-clause-out_after
 returns-in-Some-clause-out_after g c =
     let window = found_window g.row.SIDE c.args.lent c.window.ensures c.in-Some.ensures.halo_at in
-    put_as _ _ _ _ g.row.SIDE c.filter_sided-tally.ensures.out_after
+    put_as _ _ _ _ g.row.SIDE c.filter_square-tally.ensures.out_after
     (way_block g.row.SIDE c.args.set _ c.args.lent.at.x c.args.lent.at.y c.args.mv
     (image_bytes _ c.args.lent.bytes) c.way_of-way.ensures window refl)
 
@@ -35,7 +35,7 @@ returns-in-Some-clause-value g c =
     let window = found_window g.row.SIDE c.args.lent c.window.ensures c.in-Some.ensures.halo_at in
     let fraction = sym c.whole_pixel_fraction_is_zero.ensures ∙ c.if-whole_pixel_fraction_is_zero.false in
     c.took.ensures
-    ∙ takes-halo g.row.SIDE c.args.set _ c.args.lent.at.x c.args.lent.at.y c.args.mv fraction c.way_of-way.ensures window c.in-Some.ensures.fetched_value c.filter_sided-tally.ensures.value
+    ∙ takes-halo g.row.SIDE c.args.set _ c.args.lent.at.x c.args.lent.at.y c.args.mv fraction c.way_of-way.ensures window c.in-Some.ensures.fetched_value c.filter_square-tally.ensures.value
 
 pub took-requires-2 : goal.took-requires-2
 took-requires-2 g c = omega (arith, few_fetched (g.row.SIDE + 5) _ _ _ _ (omega (arith, side_most c.requires.side)) c.halo_of-halo.ensures.fetched_after)
@@ -43,7 +43,7 @@ took-requires-2 g c = omega (arith, few_fetched (g.row.SIDE + 5) _ _ _ _ (omega 
 pub returns-clause-out_after : goal.returns-clause-out_after
 returns-clause-out_after g c =
     let window = far_window g.row.SIDE _ c.args.lent.at.x c.args.lent.at.y c.args.mv c.halo_of-halo.ensures.value in
-    put_as _ _ _ _ g.row.SIDE c.filter_sided-tally-2.ensures.out_after
+    put_as _ _ _ _ g.row.SIDE c.filter_square-tally-2.ensures.out_after
     (way_block g.row.SIDE c.args.set _ c.args.lent.at.x c.args.lent.at.y c.args.mv
     (image_bytes _ c.args.lent.bytes) c.way_of-way.ensures window refl)
 
@@ -52,7 +52,7 @@ returns-clause-value g c =
     let window = far_window g.row.SIDE _ c.args.lent.at.x c.args.lent.at.y c.args.mv c.halo_of-halo.ensures.value in
     let fraction = sym c.whole_pixel_fraction_is_zero.ensures ∙ c.if-whole_pixel_fraction_is_zero.false in
     c.took-2.ensures
-    ∙ takes-halo g.row.SIDE c.args.set _ c.args.lent.at.x c.args.lent.at.y c.args.mv fraction c.way_of-way.ensures window c.halo_of-halo.ensures.fetched_after c.filter_sided-tally-2.ensures.value
+    ∙ takes-halo g.row.SIDE c.args.set _ c.args.lent.at.x c.args.lent.at.y c.args.mv fraction c.way_of-way.ensures window c.halo_of-halo.ensures.fetched_after c.filter_square-tally-2.ensures.value
 
 pub window-requires : goal.window-requires
 window-requires g c =

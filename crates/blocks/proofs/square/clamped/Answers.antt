@@ -15,4 +15,4 @@ pub returns : goal.returns
 returns c =
     let a = c.args in
     writing_all c.loop-r.invariant c.loop-r-test.false
-    ∙ ap₂ (λ (x y : ℤ). clamped_rect (plane_at a.plane.now a.at) x y a.n a.n a.out.now) (to_z-of_z c.ranges.x0) (to_z-of_z c.ranges.y0)
+    ∙ ap₂ (λ (x y : ℤ). clamped_rect (plane_at a.plane.now a.at) x y a.cols a.rows a.out.now) (to_z-of_z c.ranges.x0) (to_z-of_z c.ranges.y0)

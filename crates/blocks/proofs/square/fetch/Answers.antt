@@ -29,9 +29,9 @@ returns-clause-out_after c =
     let a = c.args in
     let x0 : Held w64 a.x0 1048576 1048576 = par_in c.ranges.x0 c.requires.source.near_x in
     let y0 : Held w64 a.y0 1048576 1048576 = par_in c.ranges.y0 c.requires.source.near_y in
-    let fits : a.count * a.count ≤ 441 = mul-le-mul {n₂ = 21} {m₂ = 21} c.requires.le_n.2 c.requires.le_n.2 in
+    let fits : a.rows * a.cols ≤ 441 = mul-le-mul {n₂ = 21} {m₂ = 21} c.requires.n_le_rows.1 c.requires.le_n.2 in
     put-square _ _ _ _ _ _ c.copy_rect-2.ensures
-    (square_as x0 y0 _ _ (corner_is (plane_in a.lent) x0.val y0.val (replicate 441 0) c.requires.le_n.1 c.requires.le_n.1 fits c.clamped.ensures))
+    (square_as x0 y0 _ _ (corner_is (plane_in a.lent) x0.val y0.val (replicate 441 0) c.requires.le_n.1 c.requires.n_le_rows.0 fits c.clamped.ensures))
 
 pub returns-clause-value : goal.returns-clause-value
 returns-clause-value c = sym (length-square _ _ _ _ _)

@@ -33,7 +33,7 @@ pub clips_of-requires : goal.clips_of-requires
 clips_of-requires g c =
     let a = c.args in
     halo_fit g.row.SIDE a.set a.halo.now a.mx a.my (few (side_most c.requires.side))
-    (tally g.row.SIDE a.halo.now c.in_ok-way.way (c.told-halo ∙ c.requires.halo_len) c.in_ok-way.ensures.way c.filter_sided-tally.ensures.value)
+    (tally g.row.SIDE a.halo.now c.in_ok-way.way (c.told-halo ∙ c.requires.halo_len) c.in_ok-way.ensures.way c.filter_square-tally.ensures.value)
 
 pub returns : goal.returns
 returns g c =
@@ -43,8 +43,8 @@ returns g c =
     let size = c.told-halo ∙ c.requires.halo_len in
     let e = c.in_ok-way.ensures.way in
     answer-done {A = BlockAnswer} {B = Clips} (λ n l k. record { number = n; clips = k; samples = l }) g.row.AREA _ _ no_clips c.in_ok-way.ensures.refusal
-    (c.filter_sided-tally.ensures.out_after
+    (c.filter_square-tally.ensures.out_after
     ∙ put_whole n _ _ (omega (arith, length-replicate {A = ℕ}, c.requires.area)) (length-halo_block n _ _ _ _)
     ∙ ap (λ (l : List ℕ). halo_block n w.set l w.mx w.my) (window_whole (n + 5) a.halo.now size)
     ∙ sym (block_as n a.halo.now e.0 e.1 e.2))
-    (c.clips_of.ensures ∙ halo-digits n a.set a.halo.now a.mx a.my (few (side_most c.requires.side)) (tally n a.halo.now w size e c.filter_sided-tally.ensures.value))
+    (c.clips_of.ensures ∙ halo-digits n a.set a.halo.now a.mx a.my (few (side_most c.requires.side)) (tally n a.halo.now w size e c.filter_square-tally.ensures.value))

@@ -9,4 +9,4 @@ pub returns : goal.returns
 unfolding whole_pixel_report
 returns c =
     c.finish_whole.ensures
-    ∙ ap (whole_finished c.args.mb_skip_coeff c.args.coefficients.now) (samples_of _ _ _ (λ p s h. search rules) c.map.ensures.cases c.predict_inter_mb_whole_pixel-report.ensures)
+    ∙ ap (whole_finished c.args.mb_skip_coeff c.args.coefficients.now) (samples_of c.predict_inter_mb_whole_pixel-report.result c.map.result _ (λ p s h. search rules) c.map.ensures.cases c.predict_inter_mb_whole_pixel-report.ensures)

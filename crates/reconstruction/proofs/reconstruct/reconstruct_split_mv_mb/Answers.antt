@@ -9,4 +9,4 @@ pub returns : goal.returns
 unfolding split_report
 returns c =
     c.finish_split.ensures
-    ∙ ap (split_finished c.args.mb_skip_coeff c.args.coefficients.now) (samples_of _ _ _ (λ p s h. search rules) c.map.ensures.cases c.predict_split_mv-report.ensures)
+    ∙ ap (split_finished c.args.mb_skip_coeff c.args.coefficients.now) (samples_of c.predict_split_mv-report.result c.map.result _ (λ p s h. search rules) c.map.ensures.cases c.predict_split_mv-report.ensures)
