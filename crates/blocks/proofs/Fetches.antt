@@ -17,16 +17,24 @@ use Rattle.blocks.specs.declared.lent.Lent.{Lent}
 use Rattle.blocks.specs.declared.place.Place.{Place}
 use Rattle.blocks.proofs.Squares.{source_as}
 
+-- where a block may start in a plane
+module _ {p : Plane} {x y : ℕ} where
+  pub under_x : PlaneAccepts p x y → x < 16384
+  under_x A = omega (arith, A.x_inside, A.width_most)
+
+  pub under_y : PlaneAccepts p x y → y < 16384
+  under_y A = omega (arith, A.y_inside, A.height_most)
+
 -- what the tests of a call accept
 module _ (l : Lent) where
   abbrev pub accepted : PlaneAccepts (plane_in l) l.at.x l.at.y
   accepted = plane_accepts (plane_in l) l.at.x l.at.y l.accepted
 
   pub lent_x : l.at.x < 16384
-  lent_x = let A = accepted in omega (arith, A.x_inside, A.width_most)
+  lent_x = under_x accepted
 
   pub lent_y : l.at.y < 16384
-  lent_y = let A = accepted in omega (arith, A.y_inside, A.height_most)
+  lent_y = under_y accepted
 
 -- what is said of a plane and a place that were tested, said of what is lent
 pub tested_is : {A : Type 0} (f : Plane → ℕ → ℕ → A) (l : Lent) {bytes : List ℕ} {at : Place} → (l.plane.now ≡ bytes) × (l.at ≡ at)
@@ -47,12 +55,6 @@ abbrev pub halo_placed : (at : ℕ) (m z : ℤ) → at < 16384 → mag m < 2 ^ h
 halo_placed at m z h f ok e = sub (placed at m z h f ok e) (lit 2 tt) tt
 
 module _ {p : Plane} {x y : ℕ} where
-  pub under_x : PlaneAccepts p x y → x < 16384
-  under_x A = omega (arith, A.x_inside, A.width_most)
-
-  pub under_y : PlaneAccepts p x y → y < 16384
-  under_y A = omega (arith, A.y_inside, A.height_most)
-
   -- the plane, and a column and a row that were computed
   pub source_of : PlaneAccepts p x y → {a b : ℤ} {u d u' d' : ℕ} (ha : Held w64 a u d) (hb : Held w64 b u' d')
       → (u ≤ 1048576) × (d ≤ 1048576) × (u' ≤ 1048576) × (d' ≤ 1048576) → Source p ha.val hb.val

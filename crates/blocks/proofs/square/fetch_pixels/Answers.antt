@@ -1,8 +1,5 @@
 -- `square::fetch_pixels` fetches the square at the whole parts of the vector, into its rectangle. Assumes nothing.
-use Rattle.std.proofs.Common.{◌∙◌, refl, arith}
-use Rattle.steps.proofs.Laws.Windows.{put_as}
-use Rattle.blocks.proofs.Squares.{square_as}
-use Rattle.blocks.proofs.Windows.{fetched_alike}
+use Rattle.std.proofs.Common.{arith}
 use Rattle.blocks.proofs.Fetches.{placed, accepted, lent_x, lent_y, source_of}
 use Rattle.blocks.proofs.square.fetch_pixels.Goals as goal
 
